@@ -1,0 +1,43 @@
+// The numbers given back: document 01, "Numbers given back". Each call answers one of them; 0 is done, and of several that hold the
+// lowest is given.
+ghost use mathlib.Core.Path.{_≡_};
+ghost use Rattle.numbers.specs.Refuse.{refuse};
+
+pub const DONE: u32 = 0;
+
+pub const STATE_EXCLUDED: u32 = 1;
+
+pub const MEMORY_LENGTH: u32 = 2;
+
+pub const REGISTER_LENGTH: u32 = 3;
+
+pub const FIELD_UNREADABLE: u32 = 4;
+
+pub const ROW_NOT_FITTED: u32 = 5;
+
+pub const COLUMN_OVER: u32 = 6;
+
+pub const STROBES_OTHER: u32 = 7;
+
+pub const MASKING_OTHER: u32 = 8;
+
+pub const HALF_OR_TAP_OVER: u32 = 9;
+
+pub const NOT_LOADED: u32 = 10;
+
+pub const SELECT_OTHER: u32 = 11;
+
+pub const RECTANGLE_OUTSIDE: u32 = 12;
+
+pub const FILL_PERSISTENT: u32 = 13;
+
+pub const RUN_OVER: u32 = 14;
+
+pub const BUFFER_SHORT: u32 = 15;
+
+// The number where the test fails; where it holds, what the later tests say.
+pub fn refuse(holds: bool, number: u32, later: u32) -> u32
+    ensures { λ r. ⌜ r ≡ refuse holds number later ⌝ }
+{
+    if holds { later } else { number }
+}

@@ -1,0 +1,41 @@
+-- `vram::Vram::clocks` meets its contract. Assumes nothing.
+use Rattle.numbers.specs.RefuseLaws.{refused-is, done-is}
+use Rattle.vram.specs.Calls.{answered, clocksRefusal, clocksCall}
+use borrow.Author.Needs.{needs}
+use Rattle.vram.proofs.Vram.clocks.Statement.{statement}
+use Rattle.vram.proofs.Vram.clocks.Tie as tie
+
+refuse-requires : tie.Need-refuse-requires
+refuse-requires c κs = search needs
+
+refuse-requires-2 : tie.Need-refuse-requires-2
+refuse-requires-2 c κs = search needs
+
+ruled-requires : tie.Need-ruled-requires
+ruled-requires c κs = search needs
+
+refuse-requires-3 : tie.Need-refuse-requires-3
+refuse-requires-3 c κs = search needs
+
+returns : tie.Need-returns
+unfolding clocksCall clocksRefusal
+returns c = refused-is answered _ _ _ _ (cc) (c .if1 .taken)
+
+moved-requires : tie.Need-moved-requires
+moved-requires c κs = search needs
+
+returns-2 : tie.Need-returns-2
+unfolding clocksCall clocksRefusal
+returns-2 c = done-is answered (c .before .before .refuse3 .result) _ _ _ _ (cc) (c .before .if1 .left) (c .moved .ensures)
+
+pub clocks-spec : {M : Type 1} → statement M
+clocks-spec =
+    tie.close
+    (tie.spec
+    refuse-requires
+    refuse-requires-2
+    ruled-requires
+    refuse-requires-3
+    returns
+    moved-requires
+    returns-2)

@@ -1,0 +1,60 @@
+-- `vram::Vram::full_transfer` meets its contract. Assumes nothing.
+use mathlib.Core.Path.{sym, ap, _∙_}
+use Prim.Native.Nat.{ℕ, _*_}
+use native.Mathlib.Omega.{arith}
+use lib.ListN.{length}
+use Rattle.vram.specs.Memory.{copied}
+use Rattle.vram.specs.RefusalLaws.{full-zero, transfer-within}
+use Rattle.vram.proofs.Arms.{transfer-refused, transfer-done}
+use borrow.Author.Needs.{needs}
+use Rattle.vram.proofs.Vram.full_transfer.Statement.{statement}
+use Rattle.vram.proofs.Vram.full_transfer.Tie as tie
+
+full-refusal-requires : tie.Need-full-refusal-requires
+full-refusal-requires c κs = search needs
+
+returns : tie.Need-returns
+returns c = transfer-refused _ _ _ _ _ _ (c .before .full-refusal .ensures) (c .if1 .taken)
+
+mul-place : tie.Need-mul-place
+mul-place c = search needs
+
+place-requires : tie.Need-place-requires
+place-requires c κs = search needs
+
+copy-requires : tie.Need-copy-requires
+copy-requires c κs =
+    let p = c .before in
+    let e = p .before in
+    let s = e .before .before .before .before in
+    let z = full-zero _ (s .args .row) (s .args .half) (sym (e .before .full-refusal .ensures) ∙ e .if1 .left) in
+    let w = transfer-within (length (s .args .memory .now)) (s .args .row) (s .args .half) 0 256 (z .0) (z .1) (omega arith) in
+    (omega (arith, p .place .ensures, w), omega (arith, s .pre))
+
+with-serial-requires : tie.Need-with-serial-requires
+with-serial-requires c κs = search needs
+
+same-length : tie.Need-same-length
+same-length c = search needs
+
+returns-2 : tie.Need-returns-2
+returns-2 c =
+    let k = c .before .before .before in
+    let p = k .before .before in
+    let e = p .before in
+    let a = e .before .before .before .before .args in
+    transfer-done _ _ _ _ _ _ (e .before .full-refusal .ensures) (e .if1 .left) (c .with-serial .ensures)
+    (k .copy .ensures ∙ ap (λ (i : ℕ). copied (a .memory .now) i (a .serial .now) 0 256) (p .place .ensures))
+
+pub full-transfer-spec : {M : Type 1} → statement M
+full-transfer-spec =
+    tie.close
+    (tie.spec
+    full-refusal-requires
+    returns
+    mul-place
+    place-requires
+    copy-requires
+    with-serial-requires
+    same-length
+    returns-2)

@@ -1,0 +1,47 @@
+-- `vram::Vram::load_mask` meets its contract. Assumes nothing.
+use mathlib.Core.Path.{ap, _∙_}
+use mathlib.Core.Bool.{true}
+use Prim.Native.Nat.{ℕ}
+use Rattle.numbers.specs.RefuseLaws.{refused-is, done-is}
+use Rattle.words.specs.Word.{covers}
+use Rattle.words.specs.WordLaws.{merged-by-mask}
+use Rattle.vram.specs.State.{withMask}
+use Rattle.vram.specs.Calls.{answered}
+use borrow.Author.Needs.{needs}
+use Rattle.vram.proofs.Vram.load_mask.Statement.{statement}
+use Rattle.vram.proofs.Vram.load_mask.Tie as tie
+
+load-refusal-requires : tie.Need-load-refusal-requires
+load-refusal-requires c κs = search needs
+
+returns : tie.Need-returns
+returns c = refused-is answered _ _ _ _ (c .before .load-refusal .ensures) (c .if1 .taken)
+
+strobe-mask-requires : tie.Need-strobe-mask-requires
+strobe-mask-requires c κs = search needs
+
+merge-requires : tie.Need-merge-requires
+merge-requires c κs = search needs
+
+with-mask-requires : tie.Need-with-mask-requires
+with-mask-requires c κs = search needs
+
+returns-2 : tie.Need-returns-2
+returns-2 c =
+    let m = c .before in
+    let e = m .before .before in
+    let a = e .before .before .args in
+    done-is answered _ _ _ _ _ (e .before .load-refusal .ensures) (e .if1 .left)
+    (c .with-mask .ensures
+    ∙ ap (λ (v : ℕ). withMask (a .self) v true) (m .merge .ensures ∙ merged-by-mask _ _ _ (covers (a .strobes)) (m .before .strobe-mask .ensures)))
+
+pub load-mask-spec : {M : Type 1} → statement M
+load-mask-spec =
+    tie.close
+    (tie.spec
+    load-refusal-requires
+    returns
+    strobe-mask-requires
+    merge-requires
+    with-mask-requires
+    returns-2)

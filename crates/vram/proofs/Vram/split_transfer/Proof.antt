@@ -1,0 +1,87 @@
+-- `vram::Vram::split_transfer` meets its contract. Assumes nothing.
+use mathlib.Core.Path.{ap₂}
+use Rattle.vram.specs.RefusalLaws.{split-zero, transfer-within}
+use mathlib.Core.Path.{_≡_, sym, ap, _∙_}
+use Prim.Native.Nat.{ℕ, _+_, _*_}
+use native.Mathlib.Omega.{arith}
+use lib.ListN.{length}
+use Rattle.vram.specs.declared.Waiting.the-variants.{Tap}
+use Rattle.vram.specs.State.{other, withSerial}
+use Rattle.vram.specs.Memory.{copied}
+use Rattle.vram.proofs.Arms.{transfer-refused, transfer-done}
+use borrow.Author.Needs.{needs}
+use Rattle.vram.proofs.Vram.split_transfer.Statement.{statement}
+use Rattle.vram.proofs.Vram.split_transfer.Tie as tie
+
+split-refusal-requires : tie.Need-split-refusal-requires
+split-refusal-requires c κs = search needs
+
+returns : tie.Need-returns
+returns c = transfer-refused _ _ _ _ _ _ (c .before .split-refusal .ensures) (c .if1 .taken)
+
+other-half-requires : tie.Need-other-half-requires
+other-half-requires c κs = search needs
+
+cast-to : tie.Need-cast-to
+cast-to c = search needs
+
+mul-place : tie.Need-mul-place
+mul-place c = search needs
+
+place-requires : tie.Need-place-requires
+place-requires c κs = search needs
+
+add-from : tie.Need-add-from
+add-from c = search needs
+
+copy-requires : tie.Need-copy-requires
+copy-requires c κs =
+    let p = c .before in
+    let h = p .before in
+    let e = h .before in
+    let s = e .before .before .before .before in
+    let z = split-zero _ (s .args .self .loaded) (s .args .row) (s .args .half) (s .args .tap) (sym (e .before .split-refusal .ensures) ∙ e .if1 .left) in
+    let w = transfer-within (length (s .args .memory .now)) (s .args .row) (s .args .half) (h .other-half .result) 128 (z .row-fitted) (z .half-within) (omega (arith, h .other-half .ensures .1)) in
+    (omega (arith, p .place .ensures, w), omega (arith, s .pre, h .other-half .ensures .1))
+
+add-t21 : tie.Need-add-t21
+add-t21 c =
+    let h = c .before .before .before .before .before in
+    let e = h .before in
+    let a = e .before .before .before .before .args in
+    let z = split-zero _ (a .self .loaded) (a .row) (a .half) (a .tap) (sym (e .before .split-refusal .ensures) ∙ e .if1 .left) in
+    omega (arith, z .tap-within, h .other-half .ensures .1)
+
+with-serial-requires : tie.Need-with-serial-requires
+with-serial-requires c κs = search needs
+
+same-length : tie.Need-same-length
+same-length c = search needs
+
+returns-2 : tie.Need-returns-2
+returns-2 c =
+    let k = c .before .before .before in
+    let p = k .before .before in
+    let h = p .before in
+    let e = h .before in
+    let a = e .before .before .before .before .args in
+    transfer-done _ _ _ _ _ _ (e .before .split-refusal .ensures) (e .if1 .left)
+    (c .with-serial .ensures ∙ ap (λ (x : ℕ). withSerial (a .self) (a .self .loaded) (a .self .pointer) (Tap (x + a .tap))) (h .other-half .ensures .0))
+    (k .copy .ensures ∙ ap₂ (λ (i x : ℕ). copied (a .memory .now) (i + x) (a .serial .now) x 128) (p .place .ensures) (h .other-half .ensures .0))
+
+pub split-transfer-spec : {M : Type 1} → statement M
+split-transfer-spec =
+    tie.close
+    (tie.spec
+    split-refusal-requires
+    returns
+    other-half-requires
+    cast-to
+    mul-place
+    place-requires
+    add-from
+    copy-requires
+    add-t21
+    with-serial-requires
+    same-length
+    returns-2)

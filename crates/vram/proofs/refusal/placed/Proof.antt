@@ -1,0 +1,19 @@
+-- `vram::refusal::placed` meets its contract. Assumes nothing.
+use borrow.Author.Needs.{needs}
+use Rattle.vram.proofs.refusal.placed.Statement.{statement}
+use Rattle.vram.proofs.refusal.placed.Tie as tie
+
+refuse-requires : tie.Need-refuse-requires
+refuse-requires c κs = search needs
+
+refuse-requires-2 : tie.Need-refuse-requires-2
+refuse-requires-2 c κs = search needs
+
+refuse-requires-3 : tie.Need-refuse-requires-3
+refuse-requires-3 c κs = search needs
+
+returns : tie.Need-returns
+returns c = cc
+
+pub placed-spec : {M : Type 1} → statement M
+placed-spec = tie.close (tie.spec refuse-requires refuse-requires-2 refuse-requires-3 returns)

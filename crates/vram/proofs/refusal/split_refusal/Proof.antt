@@ -1,0 +1,22 @@
+-- `vram::refusal::split_refusal` meets its contract. Assumes nothing.
+use Rattle.vram.specs.Refusal.{splitRefusal}
+use borrow.Author.Needs.{needs}
+use Rattle.vram.proofs.refusal.split_refusal.Statement.{statement}
+use Rattle.vram.proofs.refusal.split_refusal.Tie as tie
+
+refuse-requires : tie.Need-refuse-requires
+refuse-requires c κs = search needs
+
+refuse-requires-2 : tie.Need-refuse-requires-2
+refuse-requires-2 c κs = search needs
+
+refuse-requires-3 : tie.Need-refuse-requires-3
+refuse-requires-3 c κs = search needs
+
+returns : tie.Need-returns
+unfolding splitRefusal
+returns c = cc
+
+pub split-refusal-spec : {M : Type 1} → statement M
+split-refusal-spec =
+    tie.close (tie.spec refuse-requires refuse-requires-2 refuse-requires-3 returns)

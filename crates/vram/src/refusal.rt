@@ -1,0 +1,112 @@
+// What is refused, and with which number: the lowest wins, so the last test is worked out first.
+ghost use mathlib.Core.Path.{_≡_};
+ghost use Prim.Native.Nat.{ℕ};
+ghost use Rattle.vram.specs.Refusal.{fitted, placed, writeRefusal, loadRefusal, fullRefusal, splitRefusal, refusal, given};
+use crate::Cycle;
+use crate::Vram;
+use numbers::refuse;
+
+// 512 words to a row, 1 to 512 rows.
+pub(crate) fn fitted(words: usize) -> bool
+    ensures { λ r. ⌜ r ≡ fitted words ⌝ }
+{
+    (512 <= words) & (words <= 262144) & (words % 512 == 0)
+}
+
+// 5 to 7, which a read and a write have in common.
+pub(crate) fn placed(rows: usize, row: u32, column: u32, strobes: u32, later: u32) -> u32
+    ensures { λ r. ⌜ r ≡ placed rows row column strobes later ⌝ }
+{
+    let n = refuse(
+        (1 <= strobes) & (strobes <= 3),
+        numbers::STROBES_OTHER,
+        later,
+    );
+    let n = refuse(column <= 511, numbers::COLUMN_OVER, n);
+    refuse((row as usize) < rows, numbers::ROW_NOT_FITTED, n)
+}
+
+pub(crate) fn write_refusal(
+    rows: usize,
+    row: u16,
+    column: u16,
+    masking: u8,
+    mask: u16,
+    strobes: u8,
+) -> u32
+    ensures { λ r. ⌜ r ≡ writeRefusal rows row column masking mask strobes ⌝ }
+{
+    let n = refuse(
+        (masking == 0) & (mask == 0) | (masking == 1),
+        numbers::MASKING_OTHER,
+        numbers::DONE,
+    );
+    placed(rows, row as u32, column as u32, strobes as u32, n)
+}
+
+pub(crate) fn load_refusal(strobes: u8) -> u32
+    ensures { λ r. ⌜ r ≡ loadRefusal strobes ⌝ }
+{
+    refuse(
+        (1 <= strobes) & (strobes <= 3),
+        numbers::STROBES_OTHER,
+        numbers::DONE,
+    )
+}
+
+pub(crate) fn full_refusal(rows: usize, row: u16, half: u8) -> u32
+    ensures { λ r. ⌜ r ≡ fullRefusal rows row half ⌝ }
+{
+    let n = refuse(half <= 1, numbers::HALF_OR_TAP_OVER, numbers::DONE);
+    refuse((row as usize) < rows, numbers::ROW_NOT_FITTED, n)
+}
+
+pub(crate) fn split_refusal(rows: usize, loaded: bool, row: u16, half: u8, tap: u8) -> u32
+    ensures { λ r. ⌜ r ≡ splitRefusal rows loaded row half tap ⌝ }
+{
+    let n = refuse(loaded, numbers::NOT_LOADED, numbers::DONE);
+    let n = refuse((half <= 1) & (tap <= 127), numbers::HALF_OR_TAP_OVER, n);
+    refuse((row as usize) < rows, numbers::ROW_NOT_FITTED, n)
+}
+
+impl Vram {
+    // 1 to 3: the state and the lengths given to a call, checked whether it uses them or not.
+    pub fn given(self, words: usize, serial_words: usize) -> u32
+        ensures { λ r. ⌜ r ≡ given self words «serial_words» ⌝ }
+    {
+        let n = refuse(serial_words == 256, numbers::REGISTER_LENGTH, numbers::DONE);
+        let n = refuse(fitted(words), numbers::MEMORY_LENGTH, n);
+        refuse(self.ruled(), numbers::STATE_EXCLUDED, n)
+    }
+}
+
+impl Cycle {
+    // 5 to 10: what refuses the cycle, for the rows fitted and whether a full transfer has been made.
+    pub fn refusal(self, rows: usize, loaded: bool) -> u32
+        ensures { λ r. ⌜ r ≡ refusal rows loaded self ⌝ }
+    {
+        match self {
+            Cycle::WordWrite {
+                row,
+                column,
+                word: _,
+                masking,
+                mask,
+                strobes,
+            } => { write_refusal(rows, row, column, masking, mask, strobes) }
+            Cycle::BlockWrite {
+                row,
+                column,
+                columns: _,
+                masking,
+                mask,
+                strobes,
+            } => { write_refusal(rows, row, column, masking, mask, strobes) }
+            Cycle::LoadColour { word: _, strobes } => load_refusal(strobes),
+            Cycle::LoadMask { word: _, strobes } => load_refusal(strobes),
+            Cycle::ResetRefresh => numbers::DONE,
+            Cycle::FullTransfer { row, half, tap: _ } => full_refusal(rows, row, half),
+            Cycle::SplitTransfer { row, half, tap } => split_refusal(rows, loaded, row, half, tap),
+        }
+    }
+}

@@ -1,0 +1,56 @@
+-- Laws of words: the definitions read bit by bit, and what a merge keeps of a byte. Assumes nothing.
+use mathlib.Core.Path.{_≡_, refl, sym, ap, _∙_}
+use mathlib.Core.Bool.{Bool, true, false, cond}
+use Prim.Native.Nat.{ℕ, _+_, _/_, _^_, _<_}
+use native.Mathlib.Omega.{arith}
+use lib.Pow.{shr-lt}
+use Rattle.words.specs.Bit.{bit, ofBits}
+use Rattle.words.specs.BitLaws.{bit-shr, bits-eq, of-bits, bit-ofBits, ofBits-lt, ofBits-cong}
+use Rattle.words.specs.Word.{merged, high}
+
+-- ---- a merge, bit by bit
+
+pub merged-lt : (old new : ℕ) (w : ℕ → Bool) → merged old new w < 2 ^ 16
+unfolding merged
+merged-lt old new w = ofBits-lt 16 (λ b. cond (w b) (bit new b) (bit old b))
+
+-- each bit that must change changes, every other bit stays
+pub merged-bit : (old new : ℕ) (w : ℕ → Bool) (b : ℕ) → b < 16 → bit (merged old new w) b ≡ cond (w b) (bit new b) (bit old b)
+unfolding merged
+merged-bit old new w = bit-ofBits 16 (λ b. cond (w b) (bit new b) (bit old b))
+
+-- and that says which word it is
+pub merged-is : (old new : ℕ) (w : ℕ → Bool) (n : ℕ) → n < 2 ^ 16 → ((b : ℕ) → b < 16 → bit n b ≡ cond (w b) (bit new b) (bit old b))
+    → n ≡ merged old new w
+unfolding merged
+merged-is old new w n = of-bits 16 n (λ b. cond (w b) (bit new b) (bit old b))
+
+-- only what w says below 16 counts
+pub merged-cong : (old new : ℕ) (v w : ℕ → Bool) → ((b : ℕ) → b < 16 → v b ≡ w b) → merged old new v ≡ merged old new w
+unfolding merged
+merged-cong old new v w e =
+    ofBits-cong 16 (λ b. cond (v b) (bit new b) (bit old b)) (λ b. cond (w b) (bit new b) (bit old b))
+    (λ b l. ap (λ (t : Bool). cond t (bit new b) (bit old b)) (e b l))
+
+-- ---- masks that are known by their bits
+
+pub mask-bit : (mask : ℕ) (w : ℕ → Bool) → mask ≡ ofBits 16 w → (b : ℕ) → b < 16 → bit mask b ≡ w b
+mask-bit mask w e b h = ap (λ (n : ℕ). bit n b) e ∙ bit-ofBits 16 w b h
+
+pub merged-by-mask : (old new mask : ℕ) (w : ℕ → Bool) → mask ≡ ofBits 16 w → merged old new (bit mask) ≡ merged old new w
+merged-by-mask old new mask w e = merged-cong old new (bit mask) w (mask-bit mask w e)
+
+-- ---- the high byte of a merge is given by the old high byte
+
+high-bit : (x new : ℕ) (w : ℕ → Bool) (b : ℕ) → b < 8
+    → bit (merged x new w / 2 ^ 8) b ≡ cond (w (8 + b)) (bit new (8 + b)) (bit (x / 2 ^ 8) b)
+high-bit x new w b h =
+    bit-shr (merged x new w) 8 b
+    ∙ merged-bit x new w (8 + b) (omega arith)
+    ∙ ap (λ (t : Bool). cond (w (8 + b)) (bit new (8 + b)) t) (sym (bit-shr x 8 b))
+
+pub merged-high : (x y new : ℕ) (w : ℕ → Bool) → high x ≡ high y → high (merged x new w) ≡ high (merged y new w)
+unfolding high
+merged-high x y new w e =
+    bits-eq 8 (merged x new w / 2 ^ 8) (merged y new w / 2 ^ 8) (shr-lt 8 8 (merged-lt x new w)) (shr-lt 8 8 (merged-lt y new w))
+    (λ b h. high-bit x new w b h ∙ ap (λ (n : ℕ). cond (w (8 + b)) (bit new (8 + b)) (bit n b)) e ∙ sym (high-bit y new w b h))
