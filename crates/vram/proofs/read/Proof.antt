@@ -25,13 +25,16 @@ refuse-requires c κs = search needs
 
 returns : tie.Need-returns
 unfolding readCall readRefusal
-returns c = refused-is worded _ _ _ _ (cc) (c .if1 .taken)
+returns c =
+    let d = c .before in
+    refused-is worded _ _ _ _ (rw (d .before .fitted .ensures, d .before .before .placed .ensures) at (d .refuse .ensures)) (c .if1 .taken)
 
 place-requires : tie.Need-place-requires
 unfolding readRefusal
 place-requires c κs =
-    let a = c .before .before .before .before .before .args in
-    let n : c .before .refuse .result ≡ readRefusal (length (a .memory .now)) (a .row) (a .column) (a .strobes) = cc in
+    let d = c .before in
+    let a = d .before .before .before .before .args in
+    let n = rw (d .before .fitted .ensures, d .before .before .placed .ensures) at (d .refuse .ensures) in
     let z = read-zero (length (a .memory .now)) (a .row) (a .column) (a .strobes) (sym n ∙ c .if1 .left) in
     (omega (arith, z .0 .row-fitted, z .1), omega (arith, z .0 .column-within))
 
@@ -42,8 +45,9 @@ shared-slice-read-merge : tie.Need-shared-slice-read-merge
 unfolding readRefusal
 shared-slice-read-merge c =
     let e = c .before .before in
-    let a = e .before .before .before .before .before .args in
-    let n : e .before .refuse .result ≡ readRefusal (length (a .memory .now)) (a .row) (a .column) (a .strobes) = cc in
+    let d = e .before in
+    let a = d .before .before .before .before .args in
+    let n = rw (d .before .fitted .ensures, d .before .before .placed .ensures) at (d .refuse .ensures) in
     let z = read-zero (length (a .memory .now)) (a .row) (a .column) (a .strobes) (sym n ∙ e .if1 .left) in
     omega (arith, c .before .place .ensures, word-within (length (a .memory .now)) (a .row) (a .column) (z .0))
 
@@ -59,8 +63,9 @@ returns-2 c =
     let s = c .before in
     let p = s .before .before in
     let e = p .before in
-    let a = e .before .before .before .before .before .args in
-    done-is worded (e .before .refuse .result) _ _ _ _ (cc) (e .if1 .left)
+    let d = e .before in
+    let a = d .before .before .before .before .args in
+    done-is worded (d .refuse .result) _ _ _ _ (rw (d .before .fitted .ensures, d .before .before .placed .ensures) at (d .refuse .ensures)) (e .if1 .left)
     (c .merge .ensures
     ∙ merged-by-mask _ _ _ (covers (a .strobes)) (s .strobe-mask .ensures)
     ∙ ap (λ (i : ℕ). merged 0 (getD (a .memory .now) i 0) (covers (a .strobes))) (p .place .ensures))

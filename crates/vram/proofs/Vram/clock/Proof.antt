@@ -23,8 +23,11 @@ refuse-requires-3 c κs = search needs
 returns : tie.Need-returns
 unfolding clockRefusal
 returns c =
-    let a = c .before .before .before .before .before .before .args in
-    clock-refused (a .self) (a .serial .now) _ (cc) (c .if1 .taken)
+    let d = c .before in
+    let a = d .before .before .before .before .before .args in
+    clock-refused (a .self) (a .serial .now) _
+    (rw (d .before .ruled .ensures, d .before .before .refuse2 .ensures, d .before .before .before .refuse .ensures) at (d .refuse3 .ensures))
+    (c .if1 .taken)
 
 cast-at : tie.Need-cast-at
 cast-at c = search needs
@@ -36,8 +39,9 @@ shared-slice-read-word : tie.Need-shared-slice-read-word
 unfolding clockRefusal
 shared-slice-read-word c =
     let e = c .before .before in
-    let a = e .before .before .before .before .before .before .args in
-    let n : e .before .refuse3 .result ≡ clockRefusal (a .self) (length (a .serial .now)) = cc in
+    let d = e .before in
+    let a = d .before .before .before .before .before .args in
+    let n = rw (d .before .ruled .ensures, d .before .before .refuse2 .ensures, d .before .before .before .refuse .ensures) at (d .refuse3 .ensures) in
     omega (arith, register-long (a .self) (length (a .serial .now)) (sym n ∙ e .if1 .left), c .before .struct-known .given)
 
 moved-requires : tie.Need-moved-requires
@@ -47,8 +51,11 @@ returns-2 : tie.Need-returns-2
 unfolding clockRefusal
 returns-2 c =
     let e = c .before .before .before in
-    let a = e .before .before .before .before .before .before .args in
-    clock-done (a .self) (a .serial .now) (e .before .refuse3 .result) (cc) (e .if1 .left) (c .moved .ensures)
+    let d = e .before in
+    let a = d .before .before .before .before .before .args in
+    clock-done (a .self) (a .serial .now) (d .refuse3 .result)
+    (rw (d .before .ruled .ensures, d .before .before .refuse2 .ensures, d .before .before .before .refuse .ensures) at (d .refuse3 .ensures))
+    (e .if1 .left) (c .moved .ensures)
 
 pub clock-spec : {M : Type 1} → statement M
 clock-spec =

@@ -19,14 +19,22 @@ refuse-requires-3 c κs = search needs
 
 returns : tie.Need-returns
 unfolding clocksCall clocksRefusal
-returns c = refused-is answered _ _ _ _ (cc) (c .if1 .taken)
+returns c =
+    let d = c .before in
+    refused-is answered _ _ _ _
+    (rw (d .before .ruled .ensures, d .before .before .refuse2 .ensures, d .before .before .before .before .refuse .ensures) at (d .refuse3 .ensures))
+    (c .if1 .taken)
 
 moved-requires : tie.Need-moved-requires
 moved-requires c κs = search needs
 
 returns-2 : tie.Need-returns-2
 unfolding clocksCall clocksRefusal
-returns-2 c = done-is answered (c .before .before .refuse3 .result) _ _ _ _ (cc) (c .before .if1 .left) (c .moved .ensures)
+returns-2 c =
+    let d = c .before .before in
+    done-is answered (d .refuse3 .result) _ _ _ _
+    (rw (d .before .ruled .ensures, d .before .before .refuse2 .ensures, d .before .before .before .before .refuse .ensures) at (d .refuse3 .ensures))
+    (c .before .if1 .left) (c .moved .ensures)
 
 pub clocks-spec : {M : Type 1} → statement M
 clocks-spec =

@@ -21,7 +21,7 @@ refuse-requires-3 c κs = search needs
 
 returns : tie.Need-returns
 unfolding given
-returns c = cc
+returns c = rw (c .before .ruled .ensures, c .before .before .refuse2 .ensures, c .before .before .before .fitted .ensures, c .before .before .before .before .refuse .ensures) at (c .refuse3 .ensures)
 
 pub given-spec : {M : Type 1} → statement M
 given-spec =

@@ -1,5 +1,8 @@
 -- `vram::memory::write_block` meets its contract. Assumes nothing.
-use Rattle.vram.specs.Memory.{put, puts}
+use mathlib.Core.Bool.{_&&_}
+use Rattle.words.specs.Bit.{bit}
+use Rattle.words.specs.Word.{lets}
+use Rattle.vram.proofs.Masks.{four-writes}
 use borrow.Author.Needs.{needs}
 use Rattle.vram.proofs.memory.write_block.Statement.{statement}
 use Rattle.vram.proofs.memory.write_block.Tie as tie
@@ -32,8 +35,14 @@ same-length : tie.Need-same-length
 same-length c = search needs
 
 returns : tie.Need-returns
-unfolding puts
-returns c = cc
+returns c =
+    let w = c .before .before in
+    let v = w .before .before .before .before in
+    let u = v .before .before .before .before in
+    let t = u .before .before .before .before in
+    let a = t .before .before .before .args in
+    four-writes _ _ _ _ _ _ _ (λ j b. lets (a .columns) j b && bit (a .allow) b) (t .write-column .ensures) (u .write-column2 .ensures) (v .write-column3 .ensures)
+    (w .write-column4 .ensures)
 
 pub write-block-spec : {M : Type 1} → statement M
 write-block-spec =

@@ -1,4 +1,6 @@
 -- `vram::memory::write_word` meets its contract. Assumes nothing.
+use mathlib.Core.Path.{ap}
+use lib.ListN.{set}
 use Rattle.vram.specs.Memory.{put}
 use borrow.Author.Needs.{needs}
 use Rattle.vram.proofs.memory.write_word.Statement.{statement}
@@ -24,7 +26,7 @@ same-length c = search needs
 
 returns : tie.Need-returns
 unfolding put
-returns c = cc
+returns c = let a = c .before .before .before .args in ap (set (a .memory .now) (a .at)) (c .merge .ensures)
 
 pub write-word-spec : {M : Type 1} → statement M
 write-word-spec =

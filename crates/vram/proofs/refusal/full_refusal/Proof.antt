@@ -12,7 +12,7 @@ refuse-requires-2 c κs = search needs
 
 returns : tie.Need-returns
 unfolding fullRefusal
-returns c = cc
+returns c = rw (c .before .refuse .ensures) at (c .refuse2 .ensures)
 
 pub full-refusal-spec : {M : Type 1} → statement M
 full-refusal-spec = tie.close (tie.spec refuse-requires refuse-requires-2 returns)

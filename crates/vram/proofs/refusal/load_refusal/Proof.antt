@@ -9,7 +9,7 @@ refuse-requires c κs = search needs
 
 returns : tie.Need-returns
 unfolding loadRefusal
-returns c = cc
+returns c = c .refuse .ensures
 
 pub load-refusal-spec : {M : Type 1} → statement M
 load-refusal-spec = tie.close (tie.spec refuse-requires returns)

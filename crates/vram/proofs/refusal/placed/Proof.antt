@@ -13,7 +13,7 @@ refuse-requires-3 : tie.Need-refuse-requires-3
 refuse-requires-3 c κs = search needs
 
 returns : tie.Need-returns
-returns c = cc
+returns c = rw (c .before .refuse2 .ensures, c .before .before .refuse .ensures) at (c .refuse3 .ensures)
 
 pub placed-spec : {M : Type 1} → statement M
 placed-spec = tie.close (tie.spec refuse-requires refuse-requires-2 refuse-requires-3 returns)

@@ -15,7 +15,7 @@ refuse-requires-3 c κs = search needs
 
 returns : tie.Need-returns
 unfolding splitRefusal
-returns c = cc
+returns c = rw (c .before .refuse2 .ensures, c .before .before .refuse .ensures) at (c .refuse3 .ensures)
 
 pub split-refusal-spec : {M : Type 1} → statement M
 split-refusal-spec =

@@ -12,7 +12,7 @@ placed-requires c κs = search needs
 
 returns : tie.Need-returns
 unfolding writeRefusal
-returns c = cc
+returns c = rw (c .before .refuse .ensures) at (c .placed .ensures)
 
 pub write-refusal-spec : {M : Type 1} → statement M
 write-refusal-spec = tie.close (tie.spec refuse-requires placed-requires returns)
