@@ -1,4 +1,4 @@
--- The rules of document 01, "The memory and its registers" and "Cycles on the memory".
+-- The rules of document 01, "The memory and its registers" and "Cycles on the memory", and the laws about them.
 pub mod State
 pub mod Memory
 pub mod Board
@@ -6,7 +6,16 @@ pub mod Refusal
 pub mod Step
 pub mod Serial
 pub mod Calls
+pub mod Kinds
 pub mod ListLaws
 pub mod MemoryLaws
 pub mod RefusalLaws
+pub mod StepLaws
+pub mod Writes
+pub mod CycleLaws
+pub mod KeptLaws
 pub mod SerialLaws
+pub mod RuleLaws
+pub mod HighLaws
+pub mod Sheet
+pub mod Once

@@ -58,6 +58,9 @@ put-at m at new w a h = go (eqb a at) refl
 abbrev pub among : ℕ → ℕ → ℕ → Bool
 among base k a = leb base a && ltb a (base + k)
 
+pub among-in : (base k a : ℕ) → base ≤ a → a < base + k → among base k a ≡ true
+among-in base k a h l = rw (le-leb base a h, lt-ltb a (base + k) l)
+
 among-zero : (base a : ℕ) → among base 0 a ≡ false
 among-zero base a = go (leb base a) refl
   where
@@ -66,7 +69,7 @@ among-zero base a = go (leb base a) refl
     go false e = refl
 
 among-last : (base k : ℕ) → among base (suc k) (base + k) ≡ true
-among-last base k = rw (le-leb base (base + k) (omega arith), lt-ltb (base + k) (base + suc k) (omega arith))
+among-last base k = among-in base (suc k) (base + k) (omega arith) (omega arith)
 
 among-over : (base k : ℕ) → among base k (base + k) ≡ false
 among-over base k = rw (le-leb base (base + k) (omega arith), le-ltb (base + k) (base + k) (omega arith))

@@ -1,0 +1,144 @@
+-- A cycle keeps the lengths and the rows it does not name; a cycle and a clock keep the state's rule. Assumes nothing.
+use mathlib.Core.Path.{_≡_, refl, sym, ap, _∙_}
+use mathlib.Core.Bool.{Bool, true, false, not, _&&_, _||_, cond, true≢false}
+use mathlib.Core.List.{List, [], _∷_}
+use mathlib.Core.Logic.{_≢_, ⊎-elim}
+use Prim.Native.Nat.{ℕ, zero, suc, _+_, _-_, _*_, _/_, _%_, _≤_, _<_}
+use native.Mathlib.Omega.{arith}
+use native.Mathlib.Nat.{mod-eq-of-lt}
+use lib.Dec.{eqb, ltb}
+use lib.ListN.{length}
+use borrow.Author.Tests.{eqb-false, ne-eqb, ltb-true, ltb-false}
+use Rattle.vram.specs.declared.Vram.{Vram}
+use Rattle.vram.specs.declared.Waiting.{Waiting}
+use Rattle.vram.specs.declared.Waiting.the-variants.{None, Tap}
+use Rattle.vram.specs.declared.Cycle.{Cycle}
+use Rattle.vram.specs.declared.Cycle.the-variants.{WordWrite, BlockWrite, LoadColour, LoadMask, ResetRefresh, FullTransfer, SplitTransfer}
+use Rattle.vram.specs.State.{other, tapOk, waitingOk, ruled}
+use Rattle.vram.specs.Memory.{puts}
+use Rattle.vram.specs.MemoryLaws.{copied-length}
+use Rattle.vram.specs.Board.{Board, effect}
+use Rattle.vram.specs.Refusal.{given, refusal}
+use Rattle.vram.specs.RefusalLaws.{Given, given-zero, given-rule, full-zero, split-zero, transfer-within}
+use Rattle.vram.specs.Step.{givenOf, rowsOf, number, runBy, step, run}
+use Rattle.vram.specs.StepLaws.{number-zero, step-holds, run-holds}
+use Rattle.vram.specs.Kinds.{names}
+use Rattle.vram.specs.Writes.{writes, base, written, effect-writes, writes-within, writes-elsewhere, written-length, rowOf, written-row}
+use Rattle.vram.specs.Serial.{half, at, after, moved, clockIn, clocksIn}
+use Rattle.vram.specs.SerialLaws.{Partition}
+
+-- ---- lengths
+
+pub record Sized (x b : Board) : Type 0 where
+  pub memory : length (x .memory) ≡ length (b .memory)
+  pub serial : length (x .serial) ≡ length (b .serial)
+
+other-lt : (p : ℕ) → 128 * other p + 128 ≤ 256
+other-lt p = go (ltb p 128)
+  where
+    go : (t : Bool) → 128 * cond t 1 0 + 128 ≤ 256
+    go true = omega arith
+    go false = omega arith
+
+effect-sized : (c : Cycle) (b : Board) → number c b ≡ 0 → length (effect c b .serial) ≡ length (b .serial)
+unfolding effect refusal
+effect-sized (WordWrite row column word masking mask strobes) b z = refl
+effect-sized (BlockWrite row column columns masking mask strobes) b z = refl
+effect-sized (LoadColour word strobes) b z = refl
+effect-sized (LoadMask word strobes) b z = refl
+effect-sized ResetRefresh b z = refl
+effect-sized (FullTransfer row half tap) b z =
+    let n = number-zero (FullTransfer row half tap) b z in
+    let g = given-zero (b .state) (length (b .memory)) (length (b .serial)) (n .0) in
+    let f = full-zero (rowsOf b) row half (n .1) in
+    let w = transfer-within (length (b .memory)) row half 0 256 (f .0) (f .1) (omega arith) in
+    copied-length (b .memory) _ (b .serial) 0 256 (omega arith) (omega (arith, g .register))
+effect-sized (SplitTransfer row half tap) b z =
+    let n = number-zero (SplitTransfer row half tap) b z in
+    let g = given-zero (b .state) (length (b .memory)) (length (b .serial)) (n .0) in
+    let f = split-zero (rowsOf b) (b .state .loaded) row half tap (n .1) in
+    let o = other-lt (b .state .pointer) in
+    copied-length (b .memory) _ (b .serial) _ 128
+    (transfer-within (length (b .memory)) row half (128 * other (b .state .pointer)) 128 (f .row-fitted) (f .half-within) o) (omega (arith, g .register))
+
+pub step-sized : (c : Cycle) (b : Board) → Sized (step c b) b
+step-sized c b =
+    step-holds (λ x. Sized x b) effect c b (record { memory = refl; serial = refl })
+    (λ z. record { memory = ap length (effect-writes c b) ∙ written-length (writes c (b .state)) (b .memory); serial = effect-sized c b z })
+
+pub run-sized : (l : List Cycle) (b : Board) → Sized (run l b) b
+run-sized l b =
+    run-holds (λ x. Sized x b) step
+    (λ c x k. record { memory = step-sized c x .memory ∙ k .memory; serial = step-sized c x .serial ∙ k .serial })
+    l b (record { memory = refl; serial = refl })
+
+-- ---- rows: a write touches only the row that it names
+
+pub step-row : (r : ℕ) (c : Cycle) (b : Board) → names r c ≡ false → rowOf r (step c b .memory) ≡ rowOf r (b .memory)
+unfolding puts
+step-row r c b h = step-holds (λ x. rowOf r (x .memory) ≡ rowOf r (b .memory)) effect c b refl (λ z. ap (rowOf r) (effect-writes c b) ∙ go z)
+  where
+    go : number c b ≡ 0 → rowOf r (written (writes c (b .state)) (b .memory)) ≡ rowOf r (b .memory)
+    go z =
+        ⊎-elim (λ e. rw e)
+        (λ n. written-row (writes c (b .state)) (b .memory) r n (writes-within (rowsOf b) (b .state .loaded) c (b .state) (number-zero c b z .1)))
+        (writes-elsewhere r c (b .state) h)
+
+-- ---- the state's rule, by a cycle
+
+-- the other half is another half
+other-half : (p t : ℕ) → t ≤ 127 → eqb ((128 * other p + t) / 128) (p / 128) ≡ false
+other-half p t h = ne-eqb _ _ (go (ltb p 128) refl)
+  where
+    go : (u : Bool) → ltb p 128 ≡ u → (128 * cond u 1 0 + t) / 128 ≡ p / 128 → ⊥
+    go true e q = let k : p < 128 = ltb-true p 128 e in omega arith
+    go false e q = let k : 128 ≤ p = ltb-false p 128 e in omega arith
+
+effect-ruled : (c : Cycle) (b : Board) → ruled (b .state) ≡ true → number c b ≡ 0 → ruled (effect c b .state) ≡ true
+unfolding effect refusal ruled
+effect-ruled (WordWrite row column word masking mask strobes) b h z = h
+effect-ruled (BlockWrite row column columns masking mask strobes) b h z = h
+effect-ruled (LoadColour word strobes) b h z = h
+effect-ruled (LoadMask word strobes) b h z = h
+effect-ruled ResetRefresh b h z = h
+effect-ruled (FullTransfer row half tap) b h z = refl
+effect-ruled (SplitTransfer row half tap) b h z =
+    let f = split-zero (rowsOf b) (b .state .loaded) row half tap (number-zero (SplitTransfer row half tap) b z .1) in
+    rw (f .made, other-half (b .state .pointer) tap (f .tap-within))
+
+pub step-ruled : (c : Cycle) (b : Board) → ruled (b .state) ≡ true → ruled (step c b .state) ≡ true
+step-ruled c b h = step-holds (λ x. ruled (x .state) ≡ true) effect c b h (effect-ruled c b h)
+
+pub run-ruled : (l : List Cycle) (b : Board) → ruled (b .state) ≡ true → ruled (run l b .state) ≡ true
+run-ruled = run-holds (λ x. ruled (x .state) ≡ true) step step-ruled
+
+-- what is given stays as it was: what is wrong with a board after a cycle was wrong with it before
+pub step-given : (c : Cycle) (b : Board) → givenOf (step c b) ≡ givenOf b
+step-given c b = step-holds (λ x. givenOf x ≡ givenOf b) effect c b refl go
+  where
+    go : number c b ≡ 0 → givenOf (effect c b) ≡ givenOf b
+    go z =
+        let g = given-zero (b .state) (length (b .memory)) (length (b .serial)) (number-zero c b z .0) in
+        let m : length (effect c b .memory) ≡ length (b .memory) = ap length (effect-writes c b) ∙ written-length (writes c (b .state)) (b .memory) in
+        rw (m, effect-sized c b z)
+        (given-rule (effect c b .state) (b .state) (length (b .memory)) (length (b .serial)) (effect-ruled c b (g .rule) z ∙ sym (g .rule)))
+
+-- ---- the state's rule, by a clock
+
+module _ (n : ℕ) (P : Partition n) where
+  pub clock-ruled : (s : Vram) → s .pointer < 256 → ruled s ≡ true → ruled (clockIn n s) ≡ true
+  unfolding clockIn ruled
+  clock-ruled s p h = go (s .waiting) h
+    where
+      go : (w : Waiting) → waitingOk w (s .loaded) (s .pointer) ≡ true → waitingOk (moved n w s .waiting) (moved n w s .loaded) (moved n w s .pointer) ≡ true
+      go None h = refl
+      go (Tap tap) h = last (eqb (s .pointer % n) (n - 1)) refl
+        where
+          last : (u : Bool) → eqb (s .pointer % n) (n - 1) ≡ u
+              → waitingOk (moved n (Tap tap) s .waiting) (moved n (Tap tap) s .loaded) (moved n (Tap tap) s .pointer) ≡ true
+          last true q = rw q
+          last false q =
+              let l = P .within (s .pointer) in
+              let k : s .pointer % n ≡ n - 1 → ⊥ = eqb-false _ _ q in
+              let g = P .next (s .pointer) p (omega arith) in
+              rw (q, mod-eq-of-lt (g .0), g .2) h

@@ -1,0 +1,132 @@
+-- What a cycle writes to the memory, as one record: laws about the memory then need no cases on the cycle. Assumes nothing.
+use mathlib.Core.Path.{_≡_, refl, sym, ap, _∙_}
+use mathlib.Core.Bool.{Bool, true, false, _&&_, cond}
+use mathlib.Core.List.{List}
+use mathlib.Core.Logic.{_≢_, _⊎_, inl, inr}
+use Prim.Native.Nat.{ℕ, zero, suc, _+_, _-_, _*_, _/_, _≤_, _<_}
+use native.Mathlib.Omega.{arith}
+use native.Mathlib.Nat.{add-zero}
+use lib.Dec.{eqb, leb, ltb}
+use lib.ListN.{length, getD, take, drop}
+use borrow.Author.Tests.{eqb-false, ltb-true, ltb-false}
+use Rattle.words.specs.Bit.{bit}
+use Rattle.words.specs.Word.{merged, lets}
+use Rattle.words.specs.WordLaws.{merged-bit}
+use Rattle.vram.specs.declared.Vram.{Vram}
+use Rattle.vram.specs.declared.Cycle.{Cycle}
+use Rattle.vram.specs.declared.Cycle.the-variants.{WordWrite, BlockWrite, LoadColour, LoadMask, ResetRefresh, FullTransfer, SplitTransfer}
+use Rattle.vram.specs.Memory.{put, puts}
+use Rattle.vram.specs.MemoryLaws.{puts-length, among, puts-at, puts-part}
+use Rattle.vram.specs.Board.{Board, allowed, effect}
+use Rattle.vram.specs.Refusal.{refusal}
+use Rattle.vram.specs.RefusalLaws.{write-zero}
+use Rattle.vram.specs.Kinds.{names}
+
+-- `count` words of a row from a column on take pen's bits, word j through `through j`
+pub record Writes : Type 0 where
+  pub row : ℕ
+  pub column : ℕ
+  pub pen : ℕ
+  pub through : ℕ → ℕ → Bool
+  pub count : ℕ
+
+abbrev pub nothing : Writes
+nothing = record { row = 0; column = 0; pen = 0; through = λ j b. false; count = 0 }
+
+unfoldable pub writes : Cycle → Vram → Writes
+writes (WordWrite row column word masking mask strobes) s =
+    record { row = row; column = column; pen = word; through = λ j b. allowed s masking mask strobes b; count = 1 }
+writes (BlockWrite row column columns masking mask strobes) s =
+    record {
+      row = row;
+      column = 4 * (column / 4);
+      pen = s .colour;
+      through = λ j b. lets columns j b && allowed s masking mask strobes b;
+      count = 4;
+    }
+writes (LoadColour word strobes) s = nothing
+writes (LoadMask word strobes) s = nothing
+writes ResetRefresh s = nothing
+writes (FullTransfer row half tap) s = nothing
+writes (SplitTransfer row half tap) s = nothing
+
+abbrev pub base : Writes → ℕ
+base w = 512 * w .row + w .column
+
+abbrev pub written : Writes → List ℕ → List ℕ
+written w m = puts m (base w) (w .pen) (w .through) (w .count)
+
+-- ---- the laws by cases
+
+pub effect-writes : (c : Cycle) (b : Board) → effect c b .memory ≡ written (writes c (b .state)) (b .memory)
+unfolding effect writes puts
+effect-writes (WordWrite row column word masking mask strobes) b = rw (add-zero (512 * row + column))
+effect-writes (BlockWrite row column columns masking mask strobes) b = refl
+effect-writes (LoadColour word strobes) b = refl
+effect-writes (LoadMask word strobes) b = refl
+effect-writes ResetRefresh b = refl
+effect-writes (FullTransfer row half tap) b = refl
+effect-writes (SplitTransfer row half tap) b = refl
+
+-- a cycle that is not refused writes within the row that it names
+pub writes-within : (rows : ℕ) (made : Bool) (c : Cycle) (s : Vram) → refusal rows made c ≡ 0 → writes c s .column + writes c s .count ≤ 512
+unfolding refusal writes
+writes-within rows made (WordWrite row column word masking mask strobes) s z =
+    omega (arith, write-zero rows row column masking mask strobes z .column-within)
+writes-within rows made (BlockWrite row column columns masking mask strobes) s z =
+    omega (arith, write-zero rows row column masking mask strobes z .column-within)
+writes-within rows made (LoadColour word strobes) s z = omega arith
+writes-within rows made (LoadMask word strobes) s z = omega arith
+writes-within rows made ResetRefresh s z = omega arith
+writes-within rows made (FullTransfer row half tap) s z = omega arith
+writes-within rows made (SplitTransfer row half tap) s z = omega arith
+
+-- a cycle that names no write to row r writes nothing, or to another row
+pub writes-elsewhere : (r : ℕ) (c : Cycle) (s : Vram) → names r c ≡ false → (writes c s .count ≡ 0) ⊎ (writes c s .row ≢ r)
+unfolding names writes
+writes-elsewhere r (WordWrite row column word masking mask strobes) s h = inr (eqb-false row r h)
+writes-elsewhere r (BlockWrite row column columns masking mask strobes) s h = inr (eqb-false row r h)
+writes-elsewhere r (LoadColour word strobes) s h = inl refl
+writes-elsewhere r (LoadMask word strobes) s h = inl refl
+writes-elsewhere r ResetRefresh s h = inl refl
+writes-elsewhere r (FullTransfer row half tap) s h = inl refl
+writes-elsewhere r (SplitTransfer row half tap) s h = inl refl
+
+-- ---- and those without
+
+module _ (w : Writes) (m : List ℕ) where
+  pub written-length : length (written w m) ≡ length m
+  written-length = puts-length m (base w) (w .pen) (w .through) (w .count)
+
+  -- each bit that must change changes, every other bit stays
+  pub written-bit : (a i : ℕ) → a < length m → i < 16
+      → bit (getD (written w m) a 0) i
+      ≡ cond (among (base w) (w .count) a && w .through (a - base w) i) (bit (w .pen) i) (bit (getD m a 0) i)
+  written-bit a i h k =
+      ap (λ (n : ℕ). bit n i) (puts-at m (base w) (w .pen) (w .through) a h (w .count)) ∙ go (among (base w) (w .count) a)
+    where
+      go : (t : Bool) → bit (cond t (merged (getD m a 0) (w .pen) (w .through (a - base w))) (getD m a 0)) i
+          ≡ cond (t && w .through (a - base w) i) (bit (w .pen) i) (bit (getD m a 0) i)
+      go true = merged-bit (getD m a 0) (w .pen) (w .through (a - base w)) i k
+      go false = refl
+
+  -- a word outside stays
+  pub written-other : (a : ℕ) → a < length m → among (base w) (w .count) a ≡ false → getD (written w m) a 0 ≡ getD m a 0
+  written-other a h e =
+      puts-at m (base w) (w .pen) (w .through) a h (w .count)
+      ∙ ap (λ (t : Bool). cond t (merged (getD m a 0) (w .pen) (w .through (a - base w))) (getD m a 0)) e
+
+-- the words of row r
+abbrev pub rowOf : ℕ → List ℕ → List ℕ
+rowOf r m = take 512 (drop (512 * r) m)
+
+-- words of another row lie outside
+apart : (row r x k : ℕ) → row ≢ r → x + k ≤ 512 → (512 * row + x + k ≤ 512 * r) ⊎ (512 * r + 512 ≤ 512 * row + x)
+apart row r x k ne h = go (ltb row r) refl
+  where
+    go : (t : Bool) → ltb row r ≡ t → (512 * row + x + k ≤ 512 * r) ⊎ (512 * r + 512 ≤ 512 * row + x)
+    go true e = let z : row < r = ltb-true row r e in inl (omega arith)
+    go false e = let z : r ≤ row = ltb-false row r e in inr (omega arith)
+
+pub written-row : (w : Writes) (m : List ℕ) (r : ℕ) → w .row ≢ r → w .column + w .count ≤ 512 → rowOf r (written w m) ≡ rowOf r m
+written-row w m r n h = puts-part (512 * r) 512 m (base w) (w .pen) (w .through) (w .count) (apart (w .row) r (w .column) (w .count) n h)
