@@ -28,6 +28,14 @@ firstOf-later number later e = simp (eq-eqb number 0 e)
 pub firstOf-first : (number later : ℕ) → number ≢ 0 → firstOf number later ≡ number
 firstOf-first number later n = simp (ne-eqb number 0 n)
 
+-- a number that is asked for a second test is the first of two
+pub firstOf-is : (number later : ℕ) → refuse (eqb number 0) number later ≡ firstOf number later
+firstOf-is number later = go (eqb number 0)
+  where
+    go : (t : Bool) → refuse t number later ≡ cond t later number
+    go true = refl
+    go false = refl
+
 module _ {A : Type 0} (number : ℕ) (before made : A) where
   pub leaves-made : number ≡ 0 → leaves number before made ≡ made
   leaves-made e = simp (eq-eqb number 0 e)

@@ -16,6 +16,7 @@ pub mod CycleLaws
 pub mod KeptLaws
 pub mod SerialLaws
 pub mod RuleLaws
+pub mod CallLaws
 pub mod HighLaws
 pub mod Sheet
 pub mod Once

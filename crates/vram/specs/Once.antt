@@ -9,9 +9,9 @@ use Rattle.vram.specs.declared.Cycle.{Cycle}
 use Rattle.vram.specs.declared.Answered.{Answered}
 use Rattle.vram.specs.declared.Clocked.{Clocked}
 use Rattle.vram.specs.declared.Word.{Word}
-use Rattle.vram.specs.State.{fresh}
+use Rattle.vram.specs.State.{fresh, ruled}
 use Rattle.vram.specs.Board.{board}
-use Rattle.vram.specs.Refusal.{given, refusal}
+use Rattle.vram.specs.Refusal.{given, writeRefusal, loadRefusal, fullRefusal, splitRefusal, refusal}
 use Rattle.vram.specs.Serial.{half, through}
 use Rattle.vram.specs.Calls.{answered, Outcome, outcome, cycleCall, readCall, clockCall, clocksCall}
 
@@ -20,6 +20,12 @@ Fresh i r = r ≡ fresh
 
 pub fresh-once : Determined Fresh
 fresh-once = by-equation (λ (i : Unit {0}). fresh)
+
+abbrev pub Allows : Vram → Bool → Type 0
+Allows s r = r ≡ ruled s
+
+pub ruled-once : Determined Allows
+ruled-once = by-equation ruled
 
 -- a cycle's outcome: number and state, the memory, the serial register
 abbrev pub PerformsCycle : Vram × List ℕ × List ℕ × Cycle → Answered × List ℕ × List ℕ → Type 0
@@ -67,3 +73,27 @@ RefusesCycle (c, rows, loaded) r = r ≡ refusal rows loaded c
 
 pub refusal-once : Determined RefusesCycle
 refusal-once = by-equation (λ (i : Cycle × ℕ × Bool). refusal (i .1) (i .2) (i .0))
+
+abbrev pub RefusesWrite : ℕ × ℕ × ℕ × ℕ × ℕ × ℕ → ℕ → Type 0
+RefusesWrite (rows, row, column, masking, mask, strobes) r = r ≡ writeRefusal rows row column masking mask strobes
+
+pub write-refusal-once : Determined RefusesWrite
+write-refusal-once = by-equation (λ (i : ℕ × ℕ × ℕ × ℕ × ℕ × ℕ). writeRefusal (i .0) (i .1) (i .2) (i .3) (i .4) (i .5))
+
+abbrev pub RefusesLoad : ℕ → ℕ → Type 0
+RefusesLoad strobes r = r ≡ loadRefusal strobes
+
+pub load-refusal-once : Determined RefusesLoad
+load-refusal-once = by-equation loadRefusal
+
+abbrev pub RefusesFull : ℕ × ℕ × ℕ → ℕ → Type 0
+RefusesFull (rows, row, half) r = r ≡ fullRefusal rows row half
+
+pub full-refusal-once : Determined RefusesFull
+full-refusal-once = by-equation (λ (i : ℕ × ℕ × ℕ). fullRefusal (i .0) (i .1) (i .2))
+
+abbrev pub RefusesSplit : ℕ × Bool × ℕ × ℕ × ℕ → ℕ → Type 0
+RefusesSplit (rows, loaded, row, half, tap) r = r ≡ splitRefusal rows loaded row half tap
+
+pub split-refusal-once : Determined RefusesSplit
+split-refusal-once = by-equation (λ (i : ℕ × Bool × ℕ × ℕ × ℕ). splitRefusal (i .0) (i .1) (i .2) (i .3) (i .4))

@@ -142,3 +142,43 @@ module _ (n : ℕ) (P : Partition n) where
               let k : s .pointer % n ≡ n - 1 → ⊥ = eqb-false _ _ q in
               let g = P .next (s .pointer) p (omega arith) in
               rw (q, mod-eq-of-lt (g .0), g .2) h
+
+-- ---- and by a run of clocks, where pointer and tap are places of the register, as a `Vram` has them
+
+pub record Places (s : Vram) : Type 0 where
+  pub place : s .pointer < 256
+  pub tap : (t : ℕ) → s .waiting ≡ Tap t → t < 256
+
+none-or-tap : (t : ℕ) → None ≡ Tap t → ⊥
+none-or-tap t e = let z : _≡_ {A = ℕ} 0 1 = cc in omega arith
+
+module _ (n : ℕ) where
+  moved-places : (s : Vram) → Places s → (w : Waiting) → s .waiting ≡ w → Places (moved n w s)
+  moved-places s p None e = record { place = omega arith; tap = λ t f. absurd (none-or-tap t f) }
+  moved-places s p (Tap tap) e = go (eqb (s .pointer % n) (n - 1))
+    where
+      go : (u : Bool) → Places (cond u (at s tap None) (at s (after (s .pointer) 1) (Tap tap)))
+      go true = record { place = p .tap tap e; tap = λ t f. absurd (none-or-tap t f) }
+      go false = record { place = omega arith; tap = λ t f. p .tap t (e ∙ f) }
+
+  pub clock-places : (s : Vram) → Places s → Places (clockIn n s)
+  unfolding clockIn
+  clock-places s p = moved-places s p (s .waiting) refl
+
+  moved-loaded : (s : Vram) (w : Waiting) → moved n w s .loaded ≡ s .loaded
+  moved-loaded s None = refl
+  moved-loaded s (Tap tap) = go (eqb (s .pointer % n) (n - 1))
+    where
+      go : (u : Bool) → cond u (at s tap None) (at s (after (s .pointer) 1) (Tap tap)) .loaded ≡ s .loaded
+      go true = refl
+      go false = refl
+
+  pub clocks-loaded : (k : ℕ) (s : Vram) → clocksIn n k s .loaded ≡ s .loaded
+  unfolding clocksIn clockIn
+  clocks-loaded zero s = refl
+  clocks-loaded (suc k) s = clocks-loaded k (clockIn n s) ∙ moved-loaded s (s .waiting)
+
+pub clocks-ruled : (n : ℕ) → Partition n → (k : ℕ) (s : Vram) → Places s → ruled s ≡ true → ruled (clocksIn n k s) ≡ true
+unfolding clocksIn
+clocks-ruled n P zero s p h = h
+clocks-ruled n P (suc k) s p h = clocks-ruled n P k (clockIn n s) (clock-places n s p) (clock-ruled n P s (p .place) h)

@@ -30,6 +30,11 @@ words-add n (suc j) k s r =
     let e : suc j + k ≡ suc (j + k) = omega arith in
     rw e (ap (λ (t : List ℕ). getD r (s .pointer) 0 ∷ t) (words-add n j k (clockIn n s) r))
 
+pub words-length : (n k : ℕ) (s : Vram) (r : List ℕ) → length (wordsIn n k s r) ≡ k
+unfolding wordsIn
+words-length n zero s r = refl
+words-length n (suc k) s r = ap suc (words-length n k (clockIn n s) r)
+
 pub clock-is : (n : ℕ) (s : Vram) → clockIn n s ≡ clocksIn n 1 s
 unfolding clocksIn
 clock-is n s = refl

@@ -9,7 +9,7 @@ ghost use Rattle.vram.specs.Calls.{readCall};
 
 mod cycles;
 mod memory;
-mod refusal;
+pub mod refusal;
 mod serial;
 mod state;
 

@@ -1,4 +1,5 @@
-// What is refused, and with which number: the lowest wins, so the last test is worked out first.
+// What is refused, and with which number: the lowest wins, so the last test is worked out first. The refusal of each kind of cycle is
+// public, so that a list is judged from its bytes and the rule still stands here alone.
 ghost use mathlib.Core.Path.{_≡_};
 ghost use Prim.Native.Nat.{ℕ};
 ghost use Rattle.vram.specs.Refusal.{fitted, placed, writeRefusal, loadRefusal, fullRefusal, splitRefusal, refusal, given};
@@ -26,14 +27,7 @@ pub(crate) fn placed(rows: usize, row: u32, column: u32, strobes: u32, later: u3
     refuse((row as usize) < rows, numbers::ROW_NOT_FITTED, n)
 }
 
-pub(crate) fn write_refusal(
-    rows: usize,
-    row: u16,
-    column: u16,
-    masking: u8,
-    mask: u16,
-    strobes: u8,
-) -> u32
+pub fn write_refusal(rows: usize, row: u16, column: u16, masking: u8, mask: u16, strobes: u8) -> u32
     ensures { λ r. ⌜ r ≡ writeRefusal rows row column masking mask strobes ⌝ }
 {
     let n = refuse(
@@ -44,24 +38,21 @@ pub(crate) fn write_refusal(
     placed(rows, row as u32, column as u32, strobes as u32, n)
 }
 
-pub(crate) fn load_refusal(strobes: u8) -> u32
+pub fn load_refusal(strobes: u8) -> u32
     ensures { λ r. ⌜ r ≡ loadRefusal strobes ⌝ }
 {
-    refuse(
-        (1 <= strobes) & (strobes <= 3),
-        numbers::STROBES_OTHER,
-        numbers::DONE,
-    )
+    let some = (1 <= strobes) & (strobes <= 3);
+    refuse(some, numbers::STROBES_OTHER, numbers::DONE)
 }
 
-pub(crate) fn full_refusal(rows: usize, row: u16, half: u8) -> u32
+pub fn full_refusal(rows: usize, row: u16, half: u8) -> u32
     ensures { λ r. ⌜ r ≡ fullRefusal rows row half ⌝ }
 {
     let n = refuse(half <= 1, numbers::HALF_OR_TAP_OVER, numbers::DONE);
     refuse((row as usize) < rows, numbers::ROW_NOT_FITTED, n)
 }
 
-pub(crate) fn split_refusal(rows: usize, loaded: bool, row: u16, half: u8, tap: u8) -> u32
+pub fn split_refusal(rows: usize, loaded: bool, row: u16, half: u8, tap: u8) -> u32
     ensures { λ r. ⌜ r ≡ splitRefusal rows loaded row half tap ⌝ }
 {
     let n = refuse(loaded, numbers::NOT_LOADED, numbers::DONE);

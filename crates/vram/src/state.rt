@@ -47,7 +47,7 @@ impl Vram {
     }
 
     // Whether the rules allow the state: a waiting tap needs a full transfer made, and lies in the half that does not hold the pointer.
-    pub(crate) fn ruled(self) -> bool
+    pub fn ruled(self) -> bool
         ensures { λ r. ⌜ r ≡ ruled self ⌝ }
     {
         let waiting = self.waiting;

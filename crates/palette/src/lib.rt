@@ -1,0 +1,90 @@
+// The Am81C176 palette. Source document 001, its pages on the MPU interface, with Table 1 (the selects) and Table 2 (what each access
+// does). Where the sheet's running text and its Table 2 differ, Table 2 decides: a colour read leaves A and the colour registers.
+// A call stands for a whole access. Not modelled: pin edges, nanoseconds and the clocks between two accesses, the pixel inputs and
+// their delay, blank, the converters and their levels. One phase serves reads and writes, as the sheet's one counter does.
+ghost use mathlib.Core.Path.{_≡_};
+ghost use Rattle.palette.specs.State.{fresh};
+ghost use Rattle.palette.specs.Calls.{outcome, writeCall, readCall};
+
+mod access;
+mod state;
+
+use numbers::refuse;
+
+// The registers, by value. Every field is public: a state that the rules exclude can be built, and is refused.
+#[repr(C)]
+pub struct Palette {
+    pub address: u8,
+    pub phase: u8,
+    pub red: u8,
+    pub green: u8,
+    pub blue: u8,
+    pub mask: u8,
+}
+
+// The state after an access, the byte answered (0 for a write), and the number given back.
+#[repr(C)]
+pub struct Accessed {
+    pub state: Palette,
+    pub byte: u8,
+    pub number: u32,
+}
+
+impl Palette {
+    pub fn fresh() -> Palette
+        ensures { λ r. ⌜ r ≡ fresh ⌝ }
+    {
+        Palette {
+            address: 0,
+            phase: 0,
+            red: 0,
+            green: 0,
+            blue: 0,
+            mask: 255,
+        }
+    }
+
+    // A write, of select 0 to 3. The table's length is checked whether the select uses the table or not.
+    pub fn write(self, table: &mut [u8], select: u32, value: u8) -> Accessed
+        ensures { λ r. ⌜ outcome r (now (table .exit)) ≡ writeCall self (now (table .entry)) select value ⌝ }
+    {
+        let n = refuse(select <= 3, numbers::SELECT_OTHER, numbers::DONE);
+        let n = refuse(table.len() == 768, numbers::REGISTER_LENGTH, n);
+        let n = refuse(self.ruled(), numbers::STATE_EXCLUDED, n);
+        if n != numbers::DONE {
+            return Accessed {
+                state: self,
+                byte: 0,
+                number: n,
+            };
+        }
+        let state = self.written(table, select, value);
+        Accessed {
+            state,
+            byte: 0,
+            number: numbers::DONE,
+        }
+    }
+
+    // A read, of select 0 to 2.
+    pub fn read(self, select: u32) -> Accessed
+        ensures { λ r. ⌜ r ≡ readCall self select ⌝ }
+    {
+        let n = refuse(select <= 2, numbers::SELECT_OTHER, numbers::DONE);
+        let n = refuse(self.ruled(), numbers::STATE_EXCLUDED, n);
+        if n != numbers::DONE {
+            return Accessed {
+                state: self,
+                byte: 0,
+                number: n,
+            };
+        }
+        let byte = self.answered(select);
+        let state = self.after_read(select);
+        Accessed {
+            state,
+            byte,
+            number: numbers::DONE,
+        }
+    }
+}

@@ -1,0 +1,55 @@
+-- One stretch of a run, as the code writes it, is so many clocks of it. Assumes nothing.
+use mathlib.Core.Path.{_≡_, refl, sym, ap, ap₂, _∙_}
+use mathlib.Core.List.{List, [], _∷_, _++_, append-nil}
+use Prim.Native.Nat.{ℕ, _+_, _-_, _*_, _≤_, _<_}
+use native.Mathlib.Omega.{arith}
+use lib.ListN.{length, take, drop, length-take, length-drop, drop-of-length-le}
+use lib.Seq.{take-all}
+use borrow.Rule.Slice.PartMut.{putMid}
+use Rattle.vram.specs.declared.Vram.{Vram}
+use Rattle.vram.specs.Serial.{half, through, clocks, words}
+use Rattle.vram.specs.SerialLaws.{half-partition, words-within}
+use Rattle.panel.specs.Panel.{Panel, bytesOf, shown}
+use Rattle.panel.specs.PanelLaws.{bytes-length, shown-add, shown-length, over-length, over-more}
+use Rattle.panel.specs.Calls.{over}
+
+-- a part that runs to the end, and the whole when it is back
+tail-part : (l : List ℕ) (at : ℕ) → take (length l - at) (drop at l) ≡ drop at l
+tail-part l at = take-all (length l - at) (drop at l) (rw length-drop (omega arith))
+
+tail-back : (l part : List ℕ) (at : ℕ) → at ≤ length l → putMid at (length l - at) l part ≡ take at l ++ part
+tail-back l part at h =
+    let e : drop (length l - at) (drop at l) ≡ [] = drop-of-length-le (drop at l) {i = length l - at} (rw length-drop (omega arith)) in
+    ap (λ (x : List ℕ). take at l ++ (part ++ x)) e ∙ ap (λ (x : List ℕ). take at l ++ x) (append-nil part)
+
+module _ (p : Panel) (r out part : List ℕ) (s : Vram) (at count : ℕ) (q : s .pointer < 256) (h : count ≤ through half (s .pointer)) (l : s .pointer + count ≤ length r) where
+  pub one-stretch : (k : ℕ) → k ≡ count → at ≤ length out
+      → part ≡ over (bytesOf p (take (s .pointer + count - s .pointer) (drop (s .pointer) r))) (take (length out - at) (drop at out))
+      → putMid at (length out - at) out part ≡ take at out ++ over (bytesOf p (words k s r)) (drop at out)
+  one-stretch k f a e =
+      let n : s .pointer + count - s .pointer ≡ count = omega arith in
+      let w : words count s r ≡ take count (drop (s .pointer) r) = words-within half half-partition count s r q (omega arith) l in
+      tail-back out part at a
+      ∙ ap (λ (x : List ℕ). take at out ++ x)
+      (e
+      ∙ ap₂ (λ (x : ℕ) (y : List ℕ). over (bytesOf p (take x (drop (s .pointer) r))) y) n (tail-part out at)
+      ∙ ap (λ (x : List ℕ). over (bytesOf p x) (drop at out)) (sym w ∙ ap (λ (x : ℕ). words x s r) (sym f)))
+
+-- the buffer keeps its length
+pub words-size : (p : Panel) (ws out now : List ℕ) (i : ℕ) → i ≤ length ws → 3 * length ws ≤ length out → now ≡ over (bytesOf p (take i ws)) out → length now ≡ length out
+words-size p ws out now i h l e =
+    let k : length (bytesOf p (take i ws)) ≡ 3 * i = bytes-length p (take i ws) ∙ ap (λ (n : ℕ). 3 * n) (simp length-take (omega arith)) in
+    ap length e ∙ over-length (bytesOf p (take i ws)) out (omega arith)
+
+pub shown-size : (p : Panel) (r out now : List ℕ) (s : Vram) (k : ℕ) → 3 * k ≤ length out → now ≡ over (shown p k s r) out → length now ≡ length out
+shown-size p r out now s k l e = ap length e ∙ over-length (shown p k s r) out (omega (arith, shown-length p k s r))
+
+-- one turn of the loop: what was shown, and one stretch more
+pub one-turn : (p : Panel) (r out now next : List ℕ) (s : Vram) (done more : ℕ) → done ≤ more → now ≡ over (shown p done s r) out
+    → next ≡ take (3 * done) now ++ over (bytesOf p (words (more - done) (clocks done s) r)) (drop (3 * done) now) → next ≡ over (shown p more s r) out
+one-turn p r out now next s done more h e f =
+    let n : done + (more - done) ≡ more = omega arith in
+    f
+    ∙ ap (λ (x : List ℕ). take (3 * done) x ++ over (shown p (more - done) (clocks done s) r) (drop (3 * done) x)) e
+    ∙ sym (over-more (shown p done s r) (shown p (more - done) (clocks done s) r) out (3 * done) (shown-length p done s r))
+    ∙ ap (λ (x : List ℕ). over x out) (sym (shown-add p done (more - done) s r) ∙ ap (λ (x : ℕ). shown p x s r) n)

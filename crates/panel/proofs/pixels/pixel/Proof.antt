@@ -1,0 +1,24 @@
+-- `panel::pixels::pixel` meets its contract. Assumes nothing.
+use borrow.Author.Tests.{eq-eqb, ne-eqb}
+use Rattle.words.specs.Word.{high}
+use Rattle.panel.specs.Panel.{pixel}
+use borrow.Author.Needs.{needs}
+use Rattle.panel.proofs.pixels.pixel.Statement.{statement}
+use Rattle.panel.proofs.pixels.pixel.Tie as tie
+
+cast-high : tie.Need-cast-high
+cast-high c = search needs
+
+cast-result : tie.Need-cast-result
+cast-result c = search needs
+
+returns : tie.Need-returns
+unfolding pixel high
+returns c = rw (eq-eqb _ _ (c .if1 .taken))
+
+returns-2 : tie.Need-returns-2
+unfolding pixel high
+returns-2 c = rw (ne-eqb _ _ (c .if1 .left))
+
+pub pixel-spec : {M : Type 1} → statement M
+pixel-spec = tie.close (tie.spec cast-high cast-result returns returns-2)

@@ -1,0 +1,58 @@
+-- What a run shows: document 01, "A run to the panel". Assumes nothing.
+use Prim.Native.Nat.{ℕ, _*_, _%_}
+use mathlib.Core.Bool.{cond}
+use mathlib.Core.List.{List, [], _∷_, _++_}
+use lib.Dec.{eqb}
+use lib.Bits.{bitAnd}
+use lib.ListN.{replicate}
+use Rattle.words.specs.Word.{high}
+use Rattle.vram.specs.declared.Vram.{Vram}
+use Rattle.vram.specs.Serial.{words}
+use Rattle.palette.specs.Table.{Colour, colour, gives}
+
+-- ---- the two rules of a panel
+
+-- a word's pixel is its high byte, or its low byte where the high byte is 0
+unfoldable pub pixel : ℕ → ℕ
+pixel word = cond (eqb (high word) 0) (word % 256) (high word)
+
+-- a six-bit part is shown as it is
+unfoldable pub part : ℕ → ℕ
+part six = six
+
+-- ---- a panel: which pixel a word shows, what a six-bit part becomes, the pixel mask and the table
+
+pub record Panel : Type 0 where
+  pub pixelOf : ℕ → ℕ
+  pub partOf : ℕ → ℕ
+  pub mask : ℕ
+  pub table : List ℕ
+
+abbrev pub panelOf : ℕ → List ℕ → Panel
+panelOf mask table = record { pixelOf = pixel; partOf = part; mask = mask; table = table }
+
+-- the pixel, ANDed with the pixel mask, names the entry shown
+abbrev pub entryOf : Panel → ℕ → ℕ
+entryOf p word = bitAnd (p .pixelOf word) (p .mask)
+
+unfoldable pub colourOf : Panel → ℕ → Colour
+colourOf p word =
+    let c = gives (p .table) (entryOf p word) in
+    colour (p .partOf (c .red)) (p .partOf (c .green)) (p .partOf (c .blue))
+
+-- three bytes for each word
+unfoldable pub bytesOf : Panel → List ℕ → List ℕ
+bytesOf p [] = []
+bytesOf p (word ∷ rest) = colourOf p word .red ∷ colourOf p word .green ∷ colourOf p word .blue ∷ bytesOf p rest
+
+-- ---- a run of k clocks: the bytes of the words that they answer; zeros where it is blanked
+
+abbrev pub shown : Panel → ℕ → Vram → List ℕ → List ℕ
+shown p k s r = bytesOf p (words k s r)
+
+abbrev pub zeros : ℕ → List ℕ
+zeros n = replicate n 0
+
+-- blank: 0 no, any other number yes
+abbrev pub painted : Panel → ℕ → ℕ → Vram → List ℕ → List ℕ
+painted p blank k s r = cond (eqb blank 0) (shown p k s r) (zeros (3 * k))

@@ -1,0 +1,62 @@
+// A run to the panel: serial words through the palette to bytes. Document 01, "A run to the panel"; source document 001 (Am81C176),
+// its pixel mask and colour table.
+// A call stands for a whole run. Not modelled: the pixel clock, sync, the converters and their levels.
+// A run goes in stretches to the end of a half, so that the inner loop has no test; the tap is matched and the pointer advanced in
+// `vram` alone.
+ghost use mathlib.Core.Path.{_≡_};
+ghost use Rattle.panel.specs.Calls.{outcome, runRefusal, runCall};
+
+mod pixels;
+mod stretches;
+
+use numbers::refuse;
+use palette::Palette;
+use stretches::paint;
+use vram::Answered;
+use vram::Vram;
+
+// What refuses a run: 1 and 3 for what is given, 10 and 14 by the number that the clocks give back, 15 for the buffer.
+fn refusal(
+    state: Vram,
+    palette: Palette,
+    serial_words: usize,
+    table_bytes: usize,
+    clocks: u32,
+    bytes: usize,
+) -> u32
+    ensures { λ r. ⌜ r ≡ runRefusal state palette «serial_words» «table_bytes» clocks bytes ⌝ }
+{
+    let moved = state.clocks(clocks).number;
+    let n = refuse(
+        3 * (clocks as usize) <= bytes,
+        numbers::BUFFER_SHORT,
+        numbers::DONE,
+    );
+    let n = refuse(moved == numbers::DONE, moved, n);
+    let n = refuse(
+        (serial_words == 256) & (table_bytes == 768),
+        numbers::REGISTER_LENGTH,
+        n,
+    );
+    refuse(state.ruled() & palette.ruled(), numbers::STATE_EXCLUDED, n)
+}
+
+// A run of some clocks, shown, or blanked where blank is not 0.
+pub fn run(
+    state: Vram,
+    serial: &[u16],
+    palette: Palette,
+    table: &[u8],
+    clocks: u32,
+    blank: u32,
+    out: &mut [u8],
+) -> Answered
+    ensures { λ r. ⌜ outcome r (now (out .exit)) ≡ runCall state (now (serial .entry)) palette (now (table .entry)) clocks blank (now (out .entry)) ⌝ }
+{
+    let n = refusal(state, palette, serial.len(), table.len(), clocks, out.len());
+    if n != numbers::DONE {
+        return Answered { state, number: n };
+    }
+    paint(state, serial, palette.mask, table, clocks, blank, out);
+    state.clocks(clocks)
+}

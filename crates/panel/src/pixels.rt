@@ -1,0 +1,53 @@
+// From a word to the three bytes that show it.
+ghost use mathlib.Core.Path.{_≡_};
+ghost use Prim.Native.Nat.{ℕ, _+_, _*_, _≤_};
+ghost use lib.Bits.{bitAnd};
+ghost use lib.ListN.{length};
+ghost use Rattle.palette.specs.Table.{store};
+ghost use Rattle.panel.specs.Panel.{pixel, part, panelOf, colourOf, bytesOf};
+ghost use Rattle.panel.specs.Calls.{over};
+
+// A word's pixel: its high byte, or its low byte where the high byte is 0.
+fn pixel(word: u16) -> u8
+    ensures { λ r. ⌜ r ≡ pixel word ⌝ }
+{
+    let high = (word / 256) as u8;
+    if high == 0 { (word % 256) as u8 } else { high }
+}
+
+// What the panel takes for a six-bit part.
+fn part(six: u8) -> u8
+    ensures { λ r. ⌜ r ≡ part six ⌝ }
+{
+    six
+}
+
+// Where the entry that a word names stands in the table: the pixel, ANDed with the pixel mask.
+fn place(word: u16, mask: u8) -> usize
+    ensures { λ r. ⌜ (r ≡ 3 * bitAnd (pixel word) mask) × (r ≤ 765) ⌝ }
+{
+    3 * ((pixel(word) & mask) as usize)
+}
+
+// The i-th three bytes of the buffer take the colour that a word shows.
+fn show_word(word: u16, mask: u8, table: &[u8], out: &mut [u8], i: usize)
+    requires { ⌜ (length (now table) ≡ 768) × (3 * i + 3 ≤ length (now out)) ⌝ }
+    ensures { λ r. ⌜ now (out .exit) ≡ store (now (out .entry)) i (colourOf (panelOf mask (now (table .entry))) word) ⌝ }
+{
+    let at = place(word, mask);
+    out[3 * i] = part(table[at] % 64);
+    out[3 * i + 1] = part(table[at + 1] % 64);
+    out[3 * i + 2] = part(table[at + 2] % 64);
+}
+
+// The words of a stretch, at the start of the buffer.
+pub(crate) fn show_words(words: &[u16], mask: u8, table: &[u8], out: &mut [u8])
+    requires { ⌜ (length (now table) ≡ 768) × (3 * length (now words) ≤ length (now out)) ⌝ }
+    ensures { λ r. ⌜ now (out .exit) ≡ over (bytesOf (panelOf mask (now (table .entry))) (now (words .entry))) (now (out .entry)) ⌝ }
+{
+    let mut i = 0;
+    while i < words.len() {
+        show_word(words[i], mask, table, out, i);
+        i += 1;
+    }
+}

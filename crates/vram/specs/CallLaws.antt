@@ -1,0 +1,60 @@
+-- Laws of the calls by which a run moves. Assumes nothing.
+use mathlib.Core.Path.{_≡_, refl, sym, ap, _∙_}
+use mathlib.Core.Bool.{Bool, true, false, _||_}
+use Prim.Native.Nat.{ℕ, _+_, _≤_}
+use native.Mathlib.Omega.{arith}
+use lib.Dec.{eqb, leb}
+use borrow.Author.Tests.{leb-true, le-leb, eq-eqb, eqb-true, eqb-false}
+use Rattle.numbers.specs.RefuseLaws.{refuse-zero, leaves-made}
+use Rattle.vram.specs.declared.Vram.{Vram}
+use Rattle.vram.specs.State.{ruled}
+use Rattle.vram.specs.Serial.{half, clocks}
+use Rattle.vram.specs.SerialLaws.{half-partition}
+use Rattle.vram.specs.RuleLaws.{Places, clocks-loaded, clocks-ruled}
+use Rattle.vram.specs.Calls.{answered, clocksRefusal, clocksCall}
+
+-- the number that `clocks` gives back
+pub clocks-number : (s : Vram) (k : ℕ) → clocksCall s k .number ≡ clocksRefusal s k
+unfolding clocksCall
+clocks-number s k = refl
+
+-- where it refuses nothing the state has moved
+pub clocks-moves : (s : Vram) (k : ℕ) → clocksRefusal s k ≡ 0 → clocksCall s k .state ≡ clocks k s
+unfolding clocksCall
+clocks-moves s k z = leaves-made (clocksRefusal s k) s (clocks k s) z
+
+pub clocks-most : (s : Vram) (k : ℕ) → clocksRefusal s k ≡ 0 → k ≤ 512
+unfolding clocksRefusal
+clocks-most s k z = leb-true k 512 (refuse-zero (leb k 512) 13 0 (refuse-zero (eqb k 0 || s .loaded) 9 _ (refuse-zero (ruled s) 0 _ z .1) .1) .0)
+
+-- what exempts a run from 10 exempts one that is empty where it is
+exempt : (made : Bool) (j k : ℕ) → (k ≡ 0 → j ≡ 0) → (eqb k 0 || made) ≡ true → (eqb j 0 || made) ≡ true
+exempt made j k f h = go (eqb k 0) refl h
+  where
+    either : (t : Bool) → made ≡ true → (t || made) ≡ true
+    either true m = refl
+    either false m = m
+
+    go : (t : Bool) → eqb k 0 ≡ t → (t || made) ≡ true → (eqb j 0 || made) ≡ true
+    go true e q = rw (eq-eqb j 0 (f (eqb-true k 0 e)))
+    go false e q = either (eqb j 0) q
+
+-- fewer clocks are not refused either
+pub clocks-fewer : (s : Vram) (j k : ℕ) → j ≤ k → clocksRefusal s k ≡ 0 → clocksRefusal s j ≡ 0
+unfolding clocksRefusal
+clocks-fewer s j k h z =
+    let p = refuse-zero (ruled s) 0 _ z in
+    let q = refuse-zero (eqb k 0 || s .loaded) 9 _ (p .1) in
+    let r = refuse-zero (leb k 512) 13 0 (q .1) in
+    let m : k ≤ 512 = leb-true k 512 (r .0) in
+    rw (p .0, exempt (s .loaded) j k (λ z. omega arith) (q .0), le-leb j 512 (omega arith))
+
+-- and after some of the clocks the others are not refused
+pub clocks-rest : (s : Vram) (j k : ℕ) → Places s → clocksRefusal s (j + k) ≡ 0 → clocksRefusal (clocks j s) k ≡ 0
+unfolding clocksRefusal
+clocks-rest s j k p z =
+    let a = refuse-zero (ruled s) 0 _ z in
+    let b = refuse-zero (eqb (j + k) 0 || s .loaded) 9 _ (a .1) in
+    let c = refuse-zero (leb (j + k) 512) 13 0 (b .1) in
+    let m : j + k ≤ 512 = leb-true (j + k) 512 (c .0) in
+    rw (clocks-ruled half half-partition j s p (a .0), clocks-loaded half j s, exempt (s .loaded) k (j + k) (λ z. omega arith) (b .0), le-leb k 512 (omega arith))
