@@ -17,6 +17,7 @@ pub mod KeptLaws
 pub mod SerialLaws
 pub mod RuleLaws
 pub mod CallLaws
+pub mod CaseLaws
 pub mod HighLaws
 pub mod Sheet
 pub mod Once

@@ -1,0 +1,154 @@
+-- What is written is read back, field by field; the laws of fields are one for every tag. Assumes nothing.
+use mathlib.Core.Path.{_≡_, refl, ap, ap₂, _∙_}
+use mathlib.Core.Bool.{true}
+use mathlib.Core.List.{List, [], _∷_, _++_, map}
+use Prim.Native.Nat.{ℕ, suc, _+_, _*_, _/_, _%_, _≤_, _<_}
+use native.Mathlib.Omega.{arith}
+use native.Mathlib.Nat.{div-add-mod'}
+use lib.Dec.{leb}
+use lib.ListN.{length, drop, length-append, length-map}
+use lib.Seq.{take-append-le, take-all, drop-at}
+use borrow.Author.Tests.{le-leb, leb-true, eq-eqb}
+use Rattle.vram.specs.declared.Cycle.{Cycle}
+use Rattle.vram.specs.declared.Cycle.the-variants.{WordWrite, BlockWrite, LoadColour, LoadMask, ResetRefresh, FullTransfer, SplitTransfer}
+use Rattle.vram.specs.Kinds.{tagOf}
+use Rattle.vram.specs.RefusalLaws.{both}
+use Rattle.vram.specs.CaseLaws.{tag-word, tag-block, tag-colour, tag-mask, tag-reset, tag-full, tag-split}
+use Rattle.list.specs.Tags.{word, known, lenOf, cycleOf}
+use Rattle.list.specs.TagLaws.{len-most}
+use Rattle.list.specs.Fields.{Field, Reads, body, whole, fieldOf, parts, fields}
+use Rattle.list.specs.FieldLaws.{field-whole, fields-whole}
+use Rattle.list.specs.Meaning.{cycles, cyclesOf, countOf}
+use Rattle.list.specs.Encode.{two, bodyOf, encode, encodeAll, Bytes, Widths}
+
+-- ---- tag by tag
+
+-- every cycle's tag is known
+pub known-tag : (c : Cycle) → known (tagOf c) ≡ true
+unfolding known
+known-tag (WordWrite row column bits masking mask strobes) = rw (tag-word row column bits masking mask strobes)
+known-tag (BlockWrite row column columns masking mask strobes) = rw (tag-block row column columns masking mask strobes)
+known-tag (LoadColour bits strobes) = rw (tag-colour bits strobes)
+known-tag (LoadMask bits strobes) = rw (tag-mask bits strobes)
+known-tag ResetRefresh = rw tag-reset
+known-tag (FullTransfer row half tap) = rw (tag-full row half tap)
+known-tag (SplitTransfer row half tap) = rw (tag-split row half tap)
+
+-- its body has the length of its tag
+pub body-length : (c : Cycle) → length (bodyOf c) ≡ lenOf (tagOf c)
+unfolding lenOf bodyOf
+body-length (WordWrite row column bits masking mask strobes) = rw (tag-word row column bits masking mask strobes)
+body-length (BlockWrite row column columns masking mask strobes) = rw (tag-block row column columns masking mask strobes)
+body-length (LoadColour bits strobes) = rw (tag-colour bits strobes)
+body-length (LoadMask bits strobes) = rw (tag-mask bits strobes)
+body-length ResetRefresh = rw tag-reset
+body-length (FullTransfer row half tap) = rw (tag-full row half tap)
+body-length (SplitTransfer row half tap) = rw (tag-split row half tap)
+
+-- and says the cycle
+pub body-cycle : (c : Cycle) → cycleOf (tagOf c) (bodyOf c) ≡ c
+unfolding cycleOf bodyOf word
+body-cycle (WordWrite row column bits masking mask strobes) = simp (tag-word row column bits masking mask strobes, div-add-mod')
+body-cycle (BlockWrite row column columns masking mask strobes) = simp (tag-block row column columns masking mask strobes, div-add-mod')
+body-cycle (LoadColour bits strobes) = simp (tag-colour bits strobes, div-add-mod')
+body-cycle (LoadMask bits strobes) = simp (tag-mask bits strobes, div-add-mod')
+body-cycle ResetRefresh = rw tag-reset
+body-cycle (FullTransfer row half tap) = simp (tag-full row half tap, div-add-mod')
+body-cycle (SplitTransfer row half tap) = simp (tag-split row half tap, div-add-mod')
+
+-- ---- a field that was written
+
+module _ (c : Cycle) (t : List ℕ) where
+  whole-encode : whole (encode c ++ t) ≡ true
+  unfolding whole encode word
+  whole-encode =
+      let n = lenOf (tagOf c) in
+      let l : 3 + n ≤ length (tagOf c ∷ two n (bodyOf c ++ t)) = omega (arith, body-length c, length-append (bodyOf c) t) in
+      rw (le-leb (3 + n) (length (tagOf c ∷ two n (bodyOf c ++ t))) l, known-tag c) (eq-eqb (n / 256 * 256 + n % 256) n (div-add-mod' n 256))
+
+  body-encode : body (encode c ++ t) ≡ bodyOf c
+  unfolding encode
+  body-encode =
+      let l : lenOf (tagOf c) ≤ length (bodyOf c) = omega (arith, body-length c) in
+      let k : length (bodyOf c) ≤ lenOf (tagOf c) = omega (arith, body-length c) in
+      take-append-le (lenOf (tagOf c)) (bodyOf c) t l ∙ take-all (lenOf (tagOf c)) (bodyOf c) k
+
+  -- reads back as its cycle
+  pub field-encode : fieldOf (encode c ++ t) ≡ Reads c (lenOf (tagOf c))
+  unfolding encode
+  field-encode =
+      field-whole (encode c ++ t) whole-encode
+      ∙ ap (λ (d : Cycle). Reads d (lenOf (tagOf c))) (ap (cycleOf (tagOf c)) body-encode ∙ body-cycle c)
+
+  past-encode : drop (3 + lenOf (tagOf c)) (encode c ++ t) ≡ t
+  unfolding encode
+  past-encode =
+      let e : 3 + lenOf (tagOf c) ≡ suc (suc (suc (lenOf (tagOf c)))) = omega arith in
+      rw e (drop-at (bodyOf c) t (lenOf (tagOf c)) (body-length c))
+
+  -- and the fields after it follow
+  pub fields-encode : fields (encode c ++ t) ≡ Reads c (lenOf (tagOf c)) ∷ fields t
+  unfolding encode
+  fields-encode = fields-whole (encode c ++ t) whole-encode ∙ ap₂ (λ (f : Field) (s : List ℕ). f ∷ fields s) field-encode past-encode
+
+-- how many bytes it takes
+pub length-encode : (c : Cycle) → length (encode c) ≡ 3 + lenOf (tagOf c)
+unfolding encode
+length-encode c = omega (arith, body-length c)
+
+-- ---- a list that was written
+
+abbrev pub written : Cycle → Field
+written c = Reads c (lenOf (tagOf c))
+
+pub fields-encodeAll : (cs : List Cycle) → fields (encodeAll cs) ≡ map written cs
+unfolding encodeAll parts
+fields-encodeAll [] = refl
+fields-encodeAll (c ∷ cs) = fields-encode c (encodeAll cs) ∙ ap (λ (fs : List Field). written c ∷ fs) (fields-encodeAll cs)
+
+written-cycles : (cs : List Cycle) → cycles (map written cs) ≡ cs
+unfolding cycles
+written-cycles [] = refl
+written-cycles (c ∷ cs) = ap (λ (l : List Cycle). c ∷ l) (written-cycles cs)
+
+-- its cycles are those that were written
+pub cycles-encodeAll : (cs : List Cycle) → cyclesOf (encodeAll cs) ≡ cs
+cycles-encodeAll cs = ap cycles (fields-encodeAll cs) ∙ written-cycles cs
+
+pub count-encodeAll : (cs : List Cycle) → countOf (encodeAll cs) ≡ length cs
+count-encodeAll cs = ap length (fields-encodeAll cs) ∙ length-map cs written
+
+-- ---- numbers of their widths are written as bytes
+
+bytes-one : (n : ℕ) (s : List ℕ) → n < 256 → Bytes s → Bytes (n ∷ s)
+unfolding Bytes
+bytes-one n s h k = (h, k)
+
+bytes-two : (n : ℕ) (s : List ℕ) → n < 65536 → Bytes s → Bytes (two n s)
+bytes-two n s h k = bytes-one (n / 256) (n % 256 ∷ s) (omega arith) (bytes-one (n % 256) s (omega arith) k)
+
+bytes-none : Bytes []
+unfolding Bytes
+bytes-none = tt
+
+body-bytes : (c : Cycle) → Widths c → Bytes (bodyOf c)
+unfolding bodyOf Widths
+body-bytes (WordWrite row column bits masking mask strobes) (a, b, d, e, f, g) =
+    bytes-two row _ a (bytes-two column _ b (bytes-two bits _ d (bytes-one masking _ e (bytes-two mask _ f (bytes-one strobes [] g bytes-none)))))
+body-bytes (BlockWrite row column columns masking mask strobes) (a, b, d, e, f, g) =
+    bytes-two row _ a (bytes-two column _ b (bytes-two columns _ d (bytes-one masking _ e (bytes-two mask _ f (bytes-one strobes [] g bytes-none)))))
+body-bytes (LoadColour bits strobes) (a, b) = bytes-two bits _ a (bytes-one strobes [] b bytes-none)
+body-bytes (LoadMask bits strobes) (a, b) = bytes-two bits _ a (bytes-one strobes [] b bytes-none)
+body-bytes ResetRefresh w = bytes-none
+body-bytes (FullTransfer row half tap) (a, b, d) = bytes-two row _ a (bytes-one half _ b (bytes-one tap [] d bytes-none))
+body-bytes (SplitTransfer row half tap) (a, b, d) = bytes-two row _ a (bytes-one half _ b (bytes-one tap [] d bytes-none))
+
+tag-most : (t : ℕ) → known t ≡ true → t ≤ 7
+unfolding known
+tag-most t h = leb-true t 7 (both (leb 1 t) (leb t 7) h .1)
+
+pub encode-bytes : (c : Cycle) → Widths c → Bytes (encode c)
+unfolding encode
+encode-bytes c w =
+    bytes-one (tagOf c) _ (omega (arith, tag-most (tagOf c) (known-tag c)))
+    (bytes-two (lenOf (tagOf c)) _ (omega (arith, len-most (tagOf c))) (body-bytes c w))

@@ -1,0 +1,142 @@
+-- Laws of the splitting. What stands above cites these and not the recursion. Assumes nothing.
+use mathlib.Core.Path.{_≡_, refl, sym, ap, _∙_}
+use mathlib.Core.Bool.{Bool, true, false}
+use mathlib.Core.List.{List, [], _∷_, _++_}
+use Prim.Native.Nat.{ℕ, zero, suc, _+_, _≤_, _<_}
+use native.Mathlib.Omega.{arith}
+use lib.Dec.{eqb, leb}
+use lib.ListN.{length, drop, length-append, length-drop, List·getD-append}
+use lib.Seq.{take-append-le, drop-append-le, drop-nil}
+use borrow.Author.Tests.{leb-true, le-leb}
+use Rattle.vram.specs.RefusalLaws.{both}
+use Rattle.list.specs.Tags.{word, known, lenOf, cycleOf}
+use Rattle.list.specs.Fields.{Field, Reads, Unreadable, tag, body, headed, whole, fieldOf, parts, fields}
+use Rattle.list.specs.Meaning.{readable}
+
+-- ---- a whole field
+
+module _ (s : List ℕ) (h : whole s ≡ true) where
+  -- its bytes are there
+  pub whole-length : 3 + lenOf (tag s) ≤ length s
+  unfolding whole
+  whole-length = leb-true (3 + lenOf (tag s)) (length s) (both (leb (3 + lenOf (tag s)) (length s)) (headed s) h .0)
+
+  pub whole-headed : headed s ≡ true
+  unfolding whole
+  whole-headed = both (leb (3 + lenOf (tag s)) (length s)) (headed s) h .1
+
+  pub whole-known : known (tag s) ≡ true
+  whole-known = both (known (tag s)) (eqb (word s 1) (lenOf (tag s))) whole-headed .0
+
+  pub field-whole : fieldOf s ≡ Reads (cycleOf (tag s) (body s)) (lenOf (tag s))
+  unfolding fieldOf
+  field-whole = rw h
+
+pub field-not : (s : List ℕ) → whole s ≡ false → fieldOf s ≡ Unreadable
+unfolding fieldOf
+field-not s h = rw h
+
+-- ---- more bytes after it change nothing of it
+
+tag-append : (s t : List ℕ) → 0 < length s → tag (s ++ t) ≡ tag s
+tag-append s t h = List·getD-append s t 0 0 h
+
+word-append : (s t : List ℕ) (i : ℕ) → i + 1 < length s → word (s ++ t) i ≡ word s i
+unfolding word
+word-append s t i h =
+    let p : i < length s = omega arith in
+    rw (List·getD-append s t 0 i p, List·getD-append s t 0 (i + 1) h)
+
+pub headed-append : (s t : List ℕ) → 3 ≤ length s → headed (s ++ t) ≡ headed s
+headed-append s t h = rw (tag-append s t (omega arith), word-append s t 1 (omega arith))
+
+module _ (s t : List ℕ) (h : whole s ≡ true) where
+  pub whole-append : whole (s ++ t) ≡ true
+  unfolding whole
+  whole-append =
+      let l = whole-length s h in
+      let g : 3 + lenOf (tag s) ≤ length (s ++ t) = simp length-append (omega arith) in
+      rw (headed-append s t (omega arith), whole-headed s h, tag-append s t (omega arith), le-leb (3 + lenOf (tag s)) (length (s ++ t)) g)
+
+  body-append : body (s ++ t) ≡ body s
+  body-append =
+      let l = whole-length s h in
+      rw (tag-append s t (omega arith), drop-append-le 3 s t (omega arith))
+      (take-append-le (lenOf (tag s)) (drop 3 s) t (simp length-drop (omega arith)))
+
+  pub field-append : fieldOf (s ++ t) ≡ fieldOf s
+  field-append =
+      let l = whole-length s h in
+      let k = tag-append s t (omega arith) in
+      field-whole (s ++ t) whole-append
+      ∙ ap (λ (n : ℕ). Reads (cycleOf n (body (s ++ t))) (lenOf n)) k
+      ∙ ap (λ (b : List ℕ). Reads (cycleOf (tag s) b) (lenOf (tag s))) body-append
+      ∙ sym (field-whole s h)
+
+-- ---- the fields of some bytes: the one at the head, then those of what follows it
+
+-- to pass bytes over is to drop them
+parts-skip : (k : ℕ) (s : List ℕ) → parts k s ≡ parts 0 (drop k s)
+unfolding parts
+parts-skip k [] = rw drop-nil
+parts-skip zero (b ∷ s) = refl
+parts-skip (suc k) (b ∷ s) = parts-skip k s
+
+pub fields-nil : (s : List ℕ) → length s ≤ 0 → fields s ≡ []
+unfolding parts
+fields-nil [] h = refl
+fields-nil (b ∷ s) h = absurd (omega arith)
+
+next : (b : ℕ) (s : List ℕ) → drop (3 + lenOf b) (b ∷ s) ≡ drop (2 + lenOf b) s
+next b s = let e : 3 + lenOf b ≡ suc (2 + lenOf b) = omega arith in rw e
+
+pub fields-whole : (s : List ℕ) → whole s ≡ true → fields s ≡ fieldOf s ∷ fields (drop (3 + lenOf (tag s)) s)
+unfolding parts
+fields-whole [] h = absurd (omega (arith, whole-length [] h))
+fields-whole (b ∷ s) h = rw h (ap (λ (fs : List Field). fieldOf (b ∷ s) ∷ fs) (parts-skip (2 + lenOf b) s ∙ ap fields (sym (next b s))))
+
+pub fields-not : (s : List ℕ) → 0 < length s → whole s ≡ false → fields s ≡ Unreadable ∷ []
+unfolding parts
+fields-not [] p h = absurd (omega arith)
+fields-not (b ∷ s) p h = rw (h, field-not (b ∷ s) h)
+
+-- ---- bytes whose every field can be read
+
+readable-whole : (s : List ℕ) (fs : List Field) → whole s ≡ true → readable (fieldOf s ∷ fs) ≡ readable fs
+unfolding readable
+readable-whole s fs h = rw (field-whole s h)
+
+module _ (s : List ℕ) (p : 0 < length s) (r : readable (fields s) ≡ true) where
+  pub readable-head : whole s ≡ true
+  unfolding readable
+  readable-head = go (whole s) refl
+    where
+      go : (t : Bool) → whole s ≡ t → t ≡ true
+      go true q = refl
+      go false q = rw (fields-not s p q) at r
+
+  pub readable-tail : readable (fields (drop (3 + lenOf (tag s)) s)) ≡ true
+  readable-tail = sym (ap readable (fields-whole s readable-head) ∙ readable-whole s _ readable-head) ∙ r
+
+pub parts-tail : (x : ℕ) (a : List ℕ) → readable (fields (x ∷ a)) ≡ true → readable (parts (2 + lenOf x) a) ≡ true
+parts-tail x a e = ap readable (parts-skip (2 + lenOf x) a ∙ ap fields (sym (next x a))) ∙ readable-tail (x ∷ a) (omega arith) e
+
+-- ---- the fields of joined lists, where the first can be read
+
+parts-append : (k : ℕ) (a b : List ℕ) → k ≤ length a → readable (parts k a) ≡ true → parts k (a ++ b) ≡ parts k a ++ fields b
+unfolding parts
+parts-append zero [] b h e = refl
+parts-append (suc k) [] b h e = absurd (omega arith)
+parts-append (suc k) (x ∷ a) b h e = parts-append k a b (omega arith) e
+parts-append zero (x ∷ a) b h e = go (parts-append (2 + lenOf x) a b)
+  where
+    go : (2 + lenOf x ≤ length a → readable (parts (2 + lenOf x) a) ≡ true → parts (2 + lenOf x) (a ++ b) ≡ parts (2 + lenOf x) a ++ fields b)
+        → parts zero (x ∷ (a ++ b)) ≡ parts zero (x ∷ a) ++ fields b
+    go ih =
+        let w = readable-head (x ∷ a) (omega arith) e in
+        let l = whole-length (x ∷ a) w in
+        rw (whole-append (x ∷ a) b w, field-append (x ∷ a) b w, w)
+        (ap (λ (fs : List Field). fieldOf (x ∷ a) ∷ fs) (ih (omega arith) (parts-tail x a e)))
+
+pub fields-append : (a b : List ℕ) → readable (fields a) ≡ true → fields (a ++ b) ≡ fields a ++ fields b
+fields-append a b e = parts-append 0 a b (omega arith) e

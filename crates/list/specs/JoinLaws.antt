@@ -1,0 +1,133 @@
+-- Laws of joined lists: an accepted one, then another. Assumes nothing.
+use mathlib.Core.Path.{_≡_, refl, sym, ap, ap₂, _∙_}
+use mathlib.Core.Bool.{Bool, true, false, cond}
+use mathlib.Core.List.{List, [], _∷_, _++_}
+use Prim.Native.Nat.{ℕ, _+_, _/_}
+use native.Mathlib.Omega.{arith}
+use native.Mathlib.Nat.{add-assoc, add-zero}
+use lib.Dec.{eqb}
+use lib.ListN.{length}
+use borrow.Author.Tests.{eqb-true}
+use Rattle.vram.specs.declared.Cycle.{Cycle}
+use Rattle.vram.specs.Board.{Board}
+use Rattle.vram.specs.Step.{givenOf, rowsOf, number, step, run}
+use Rattle.vram.specs.StepLaws.{run-append}
+use Rattle.vram.specs.KeptLaws.{step-loaded}
+use Rattle.vram.specs.RuleLaws.{step-sized, run-sized, step-given}
+use Rattle.vram.specs.CaseLaws.{run-none, run-next, number-is, run-given}
+use Rattle.list.specs.declared.Bad.{Bad}
+use Rattle.list.specs.Fields.{Field, Reads, Unreadable, sizeOf, fields}
+use Rattle.list.specs.FieldLaws.{fields-append}
+use Rattle.list.specs.Meaning.{numberOf, madeBy, bad, verdict, cycles, readable, cyclesOf, verdictOf, runCall}
+use Rattle.list.specs.VerdictLaws.{verdict-good, accepted-head, accepted-tail}
+use Rattle.list.specs.Joined.{madeByAll, sizes, further}
+use Rattle.list.specs.CountLaws.{sizes-all}
+use Rattle.list.specs.CallLaws.{accepted-readable, accepted-given, verdict-fields, call-runs}
+
+-- ---- fields one after the other
+
+pub cycles-append : (fs gs : List Field) → cycles (fs ++ gs) ≡ cycles fs ++ cycles gs
+unfolding cycles
+cycles-append [] gs = refl
+cycles-append (Reads c n ∷ fs) gs = ap (λ (l : List Cycle). c ∷ l) (cycles-append fs gs)
+cycles-append (Unreadable ∷ fs) gs = cycles-append fs gs
+
+pub verdict-append : (rows : ℕ) (made : Bool) (at : ℕ) (fs gs : List Field) → verdict rows made at fs .number ≡ 0
+    → verdict rows made at (fs ++ gs) ≡ verdict rows (madeByAll fs made) (at + sizes fs) gs
+unfolding madeByAll sizes
+verdict-append rows made at [] gs h = rw (add-zero at)
+verdict-append rows made at (f ∷ fs) gs h =
+    verdict-good rows made at f (fs ++ gs) (accepted-head rows made at f fs h)
+    ∙ verdict-append rows (madeBy f made) (at + sizeOf f) fs gs (accepted-tail rows made at f fs h)
+    ∙ ap (λ (n : ℕ). verdict rows (madeByAll fs (madeBy f made)) n gs) (add-assoc at (sizeOf f) (sizes fs))
+
+-- ---- fields further on in the bytes
+
+pub verdict-further : (n rows : ℕ) (made : Bool) (at : ℕ) (fs : List Field) → verdict rows made (n + at) fs ≡ further n (verdict rows made at fs)
+unfolding verdict further
+verdict-further n rows made at [] = refl
+verdict-further n rows made at (f ∷ fs) = go (eqb (numberOf rows made f) 0) refl (verdict-further n rows (madeBy f made) (at + sizeOf f) fs)
+  where
+    go : (t : Bool) → eqb (numberOf rows made f) 0 ≡ t
+        → verdict rows (madeBy f made) (n + (at + sizeOf f)) fs ≡ further n (verdict rows (madeBy f made) (at + sizeOf f) fs)
+        → cond t (verdict rows (madeBy f made) (n + at + sizeOf f) fs) (bad (numberOf rows made f) (n + at))
+        ≡ further n (cond t (verdict rows (madeBy f made) (at + sizeOf f) fs) (bad (numberOf rows made f) at))
+    go true q ih = rw add-assoc ih
+    go false q ih = rw q
+
+further-number : (n : ℕ) (v : Bad) → further n v .number ≡ v .number
+unfolding further
+further-number n v = go (eqb (v .number) 0) refl
+  where
+    go : (t : Bool) → eqb (v .number) 0 ≡ t → cond t (bad 0 0) (bad (v .number) (n + v .place)) .number ≡ v .number
+    go true q = sym (eqb-true _ _ q)
+    go false q = refl
+
+-- ---- what the check carried is what the run leaves: `loaded` at the end of accepted fields
+
+pub run-loaded : (at : ℕ) (fs : List Field) (b : Board) → givenOf b ≡ 0 → verdict (rowsOf b) (b .state .loaded) at fs .number ≡ 0
+    → run (cycles fs) b .state .loaded ≡ madeByAll fs (b .state .loaded)
+unfolding cycles madeByAll numberOf madeBy
+run-loaded at [] b g h = ap (λ (x : Board). x .state .loaded) (run-none step b)
+run-loaded at (Reads c n ∷ fs) b g h =
+    let z : number c b ≡ 0 = number-is c b g ∙ accepted-head (rowsOf b) (b .state .loaded) at (Reads c n) fs h in
+    let l = step-loaded b c z in
+    let r : rowsOf (step c b) ≡ rowsOf b = ap (λ (k : ℕ). k / 512) (step-sized c b .memory) in
+    let t = accepted-tail (rowsOf b) (b .state .loaded) at (Reads c n) fs h in
+    ap (λ (x : Board). x .state .loaded) (run-next step c (cycles fs) b)
+    ∙ run-loaded (at + sizeOf (Reads c n)) fs (step c b) (step-given c b ∙ g)
+    (ap₂ (λ (k : ℕ) (made : Bool). verdict k made (at + sizeOf (Reads c n)) fs .number) r l ∙ t)
+    ∙ ap (madeByAll fs) l
+run-loaded at (Unreadable ∷ fs) b g h = absurd (omega (arith, accepted-head (rowsOf b) (b .state .loaded) at Unreadable fs h))
+
+-- ---- an accepted list
+
+module _ (a : List ℕ) (x : Board) (h : verdictOf a x .number ≡ 0) where
+  accepted : verdict (rowsOf x) (x .state .loaded) 0 (fields a) .number ≡ 0
+  accepted = sym (ap (λ (v : Bad). v .number) (verdict-fields a x (accepted-given a x h))) ∙ h
+
+  -- each of its fields can be read
+  pub call-readable : readable (fields a) ≡ true
+  call-readable = accepted-readable (rowsOf x) (x .state .loaded) 0 (fields a) accepted
+
+  -- `loaded` at the end of an accepted list
+  pub call-loaded : runCall a x .after .state .loaded ≡ madeByAll (fields a) (x .state .loaded)
+  call-loaded = ap (λ (y : Board). y .state .loaded) (call-runs a x h) ∙ run-loaded 0 (fields a) x (accepted-given a x h) accepted
+
+  -- rows fitted stay
+  call-rows : rowsOf (runCall a x .after) ≡ rowsOf x
+  call-rows = ap rowsOf (call-runs a x h) ∙ ap (λ (k : ℕ). k / 512) (run-sized (cyclesOf a) x .memory)
+
+  call-given-kept : givenOf (runCall a x .after) ≡ 0
+  call-given-kept = ap givenOf (call-runs a x h) ∙ run-given (cyclesOf a) x ∙ accepted-given a x h
+
+-- ---- an accepted list, then another
+
+module _ (a b : List ℕ) (x : Board) (h : verdictOf a x .number ≡ 0) where
+  -- the second is judged on what the first leaves, its places counted from the joined list's first byte
+  pub joined-verdict : verdictOf (a ++ b) x ≡ further (length a) (verdictOf b (runCall a x .after))
+  joined-verdict =
+      let m = madeByAll (fields a) (x .state .loaded) in
+      let e : 0 + sizes (fields a) ≡ length a + 0 = omega (arith, sizes-all a (call-readable a x h)) in
+      verdict-fields (a ++ b) x (accepted-given a x h)
+      ∙ ap (verdict (rowsOf x) (x .state .loaded) 0) (fields-append a b (call-readable a x h))
+      ∙ verdict-append (rowsOf x) (x .state .loaded) 0 (fields a) (fields b) (accepted a x h)
+      ∙ ap (λ (n : ℕ). verdict (rowsOf x) m n (fields b)) e
+      ∙ verdict-further (length a) (rowsOf x) m 0 (fields b)
+      ∙ ap (further (length a))
+      (sym (verdict-fields b (runCall a x .after) (call-given-kept a x h) ∙ ap₂ (λ (k : ℕ) (made : Bool). verdict k made 0 (fields b)) (call-rows a x h) (call-loaded a x h)))
+
+  pub joined-number : verdictOf (a ++ b) x .number ≡ verdictOf b (runCall a x .after) .number
+  joined-number = ap (λ (v : Bad). v .number) joined-verdict ∙ further-number (length a) (verdictOf b (runCall a x .after))
+
+  pub joined-cycles : cyclesOf (a ++ b) ≡ cyclesOf a ++ cyclesOf b
+  joined-cycles = ap cycles (fields-append a b (call-readable a x h)) ∙ cycles-append (fields a) (fields b)
+
+  -- both accepted: the second runs on what the first leaves
+  pub joined-run : verdictOf b (runCall a x .after) .number ≡ 0 → runCall (a ++ b) x .after ≡ runCall b (runCall a x .after) .after
+  joined-run k =
+      call-runs (a ++ b) x (joined-number ∙ k)
+      ∙ ap (λ (l : List Cycle). run l x) joined-cycles
+      ∙ run-append step (cyclesOf a) (cyclesOf b) x
+      ∙ ap (run (cyclesOf b)) (sym (call-runs a x h))
+      ∙ sym (call-runs b (runCall a x .after) k)

@@ -1,0 +1,80 @@
+-- What a list is answered with and what it leaves: document 01, "Lists and fills" and "Numbers given back". The cycles are known by
+-- what `vram` says of them: `refusal`, `loads`, `run`. Assumes nothing.
+use Prim.Native.Nat.{ℕ, _+_}
+use mathlib.Core.Bool.{Bool, true, false, cond}
+use mathlib.Core.List.{List, [], _∷_}
+use lib.Dec.{eqb}
+use lib.ListN.{length}
+use Rattle.numbers.specs.Refuse.{leaves}
+use Rattle.vram.specs.declared.Cycle.{Cycle}
+use Rattle.vram.specs.Board.{Board, board}
+use Rattle.vram.specs.Refusal.{refusal}
+use Rattle.vram.specs.Kinds.{loads}
+use Rattle.vram.specs.Step.{givenOf, rowsOf, run}
+use Rattle.list.specs.declared.Bad.{Bad}
+use Rattle.list.specs.declared.Ran.{Ran}
+use Rattle.list.specs.Fields.{Field, Reads, Unreadable, sizeOf, fields}
+
+-- ---- a field
+
+-- its number: 4, or what refuses its cycle
+unfoldable pub numberOf : ℕ → Bool → Field → ℕ
+numberOf rows made (Reads c n) = refusal rows made c
+numberOf rows made Unreadable = 4
+
+-- whether a full transfer has been made, after it
+unfoldable pub madeBy : Field → Bool → Bool
+madeBy (Reads c n) made = loads c made
+madeBy Unreadable made = made
+
+-- ---- fields in order
+
+abbrev pub bad : ℕ → ℕ → Bad
+bad number place = record { number = number; place = place }
+
+-- the first field that is refused: its number and its offset. `at` is the offset of the first field given
+unfoldable pub verdict : ℕ → Bool → ℕ → List Field → Bad
+verdict rows made at [] = bad 0 0
+verdict rows made at (f ∷ fs) =
+    cond (eqb (numberOf rows made f) 0)
+    (verdict rows (madeBy f made) (at + sizeOf f) fs)
+    (bad (numberOf rows made f) at)
+
+-- their cycles
+unfoldable pub cycles : List Field → List Cycle
+cycles [] = []
+cycles (Reads c n ∷ fs) = c ∷ cycles fs
+cycles (Unreadable ∷ fs) = cycles fs
+
+-- no field is one that cannot be read
+unfoldable pub readable : List Field → Bool
+readable [] = true
+readable (Reads c n ∷ fs) = readable fs
+readable (Unreadable ∷ fs) = false
+
+-- ---- a list
+
+abbrev pub cyclesOf : List ℕ → List Cycle
+cyclesOf list = cycles (fields list)
+
+-- how many fields it has
+abbrev pub countOf : List ℕ → ℕ
+countOf list = length (fields list)
+
+-- 1 to 3 first, with place 0; then its fields
+unfoldable pub verdictOf : List ℕ → Board → Bad
+verdictOf list b = cond (eqb (givenOf b) 0) (verdict (rowsOf b) (b .state .loaded) 0 (fields list)) (bad (givenOf b) 0)
+
+-- ---- the call
+
+-- number and place, and the board afterwards
+pub record Outcome : Type 0 where
+  pub given : Bad
+  pub after : Board
+
+abbrev pub outcome : Ran → List ℕ → List ℕ → Outcome
+outcome r m q = record { given = bad (r .number) (r .place); after = board (r .state) m q }
+
+-- checked whole, then run in order; a refusal changes nothing
+unfoldable pub runCall : List ℕ → Board → Outcome
+runCall list b = record { given = verdictOf list b; after = leaves (verdictOf list b .number) b (run (cyclesOf list) b) }

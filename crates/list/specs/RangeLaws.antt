@@ -1,0 +1,85 @@
+-- Numbers and places stay within the table and the list. Assumes nothing.
+use mathlib.Core.Path.{_≡_, refl, sym, ap, _∙_}
+use mathlib.Core.Bool.{Bool, true, false, cond}
+use mathlib.Core.List.{List, [], _∷_}
+use mathlib.Core.Logic.{_≢_}
+use Prim.Native.Nat.{ℕ, zero, suc, _+_, _≤_, _<_}
+use native.Mathlib.Omega.{arith}
+use lib.Dec.{eqb}
+use lib.ListN.{length, drop, length-drop}
+use borrow.Author.Tests.{eqb-true, eqb-false}
+use Rattle.vram.specs.Board.{Board}
+use Rattle.vram.specs.Step.{givenOf, rowsOf}
+use Rattle.vram.specs.RefusalLaws.{given-most, refusal-most}
+use Rattle.list.specs.declared.Bad.{Bad}
+use Rattle.list.specs.Tags.{lenOf}
+use Rattle.list.specs.Fields.{Field, Reads, Unreadable, tag, whole, fieldOf, sizeOf, fields}
+use Rattle.list.specs.FieldLaws.{whole-length, fields-nil, fields-whole, fields-not}
+use Rattle.list.specs.Meaning.{numberOf, madeBy, bad, verdict, verdictOf}
+use Rattle.list.specs.CallLaws.{verdict-given, verdict-fields}
+use Rattle.list.specs.VerdictLaws.{size-whole, number-not, verdict-nil, verdict-good, verdict-bad}
+
+-- ---- the number is one of the table's
+
+number-most : (rows : ℕ) (made : Bool) (f : Field) → numberOf rows made f ≤ 10
+unfolding numberOf
+number-most rows made (Reads c n) = refusal-most rows made c
+number-most rows made Unreadable = omega arith
+
+pub verdict-most : (rows : ℕ) (made : Bool) (at : ℕ) (fs : List Field) → verdict rows made at fs .number ≤ 10
+verdict-most rows made at [] = rw (verdict-nil rows made at) (omega arith)
+verdict-most rows made at (f ∷ fs) = go (eqb (numberOf rows made f) 0) refl (verdict-most rows (madeBy f made) (at + sizeOf f) fs)
+  where
+    go : (t : Bool) → eqb (numberOf rows made f) 0 ≡ t → verdict rows (madeBy f made) (at + sizeOf f) fs .number ≤ 10 → verdict rows made at (f ∷ fs) .number ≤ 10
+    go true e later = rw (verdict-good rows made at f fs (eqb-true _ _ e)) later
+    go false e later = rw (verdict-bad rows made at f fs (eqb-false _ _ e)) (number-most rows made f)
+
+-- ---- the place lies in the list
+
+four : (rows : ℕ) (made : Bool) → numberOf rows made Unreadable ≡ 4
+unfolding numberOf
+four rows made = refl
+
+-- if it does for what follows the first field
+module _ (rows : ℕ) (made : Bool) (at : ℕ) (s : List ℕ)
+    (rest : whole s ≡ true → (m : Bool) (a : ℕ) → verdict rows m a (fields (drop (3 + lenOf (tag s)) s)) .place ≤ a + length (drop (3 + lenOf (tag s)) s)) where
+  first : whole s ≡ true → (t : Bool) → eqb (numberOf rows made (fieldOf s)) 0 ≡ t
+      → verdict rows made at (fieldOf s ∷ fields (drop (3 + lenOf (tag s)) s)) .place ≤ at + length s
+  first w true e =
+      let l : 3 + lenOf (tag s) ≤ length s = whole-length s w in
+      let d : length (drop (3 + lenOf (tag s)) s) + (3 + lenOf (tag s)) ≡ length s = simp length-drop (omega arith) in
+      let m = rest w (madeBy (fieldOf s) made) (at + (3 + lenOf (tag s))) in
+      rw (verdict-good rows made at (fieldOf s) (fields (drop (3 + lenOf (tag s)) s)) (eqb-true _ _ e), size-whole s w) (omega arith)
+  first w false e = rw (verdict-bad rows made at (fieldOf s) (fields (drop (3 + lenOf (tag s)) s)) (eqb-false _ _ e)) (omega arith)
+
+  some : 0 < length s → (t : Bool) → whole s ≡ t → verdict rows made at (fields s) .place ≤ at + length s
+  some p true w = rw (fields-whole s w) (first w (eqb (numberOf rows made (fieldOf s)) 0) refl)
+  some p false w =
+      let n : numberOf rows made Unreadable ≢ 0 = λ z. omega (arith, four rows made) in
+      rw (fields-not s p w, verdict-bad rows made at Unreadable [] n) (omega arith)
+
+  place-first : (t : Bool) → eqb (length s) 0 ≡ t → verdict rows made at (fields s) .place ≤ at + length s
+  place-first true e = rw (fields-nil s (omega (arith, eqb-true (length s) 0 e)), verdict-nil rows made at) (omega arith)
+  place-first false e =
+      let p : length s ≡ 0 → ⊥ = eqb-false _ _ e in
+      some (omega arith) (whole s) refl
+
+place-in : (n rows : ℕ) (made : Bool) (at : ℕ) (s : List ℕ) → length s ≤ n → verdict rows made at (fields s) .place ≤ at + length s
+place-in zero rows made at s h = rw (fields-nil s h, verdict-nil rows made at) (omega arith)
+place-in (suc n) rows made at s h =
+    place-first rows made at s
+    (λ w m a. place-in n rows m a (drop (3 + lenOf (tag s)) s) (omega (arith, whole-length s w, length-drop (3 + lenOf (tag s)) s)))
+    (eqb (length s) 0) refl
+
+-- ---- the call
+
+pub call-most : (list : List ℕ) (b : Board) → (verdictOf list b .number ≤ 10) × (verdictOf list b .place ≤ length list)
+call-most list b = go (eqb (givenOf b) 0) refl
+  where
+    go : (t : Bool) → eqb (givenOf b) 0 ≡ t → (verdictOf list b .number ≤ 10) × (verdictOf list b .place ≤ length list)
+    go true e =
+        let p = place-in (length list) (rowsOf b) (b .state .loaded) 0 list (omega arith) in
+        rw (verdict-fields list b (eqb-true _ _ e)) (verdict-most (rowsOf b) (b .state .loaded) 0 (fields list), omega arith)
+    go false e =
+        let m = given-most (b .state) (length (b .memory)) (length (b .serial)) in
+        rw (verdict-given list b (eqb-false _ _ e)) (omega arith, omega arith)

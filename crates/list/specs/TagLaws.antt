@@ -1,0 +1,105 @@
+-- What the tag table comes to, tag by tag. Assumes nothing.
+use mathlib.Core.Path.{_≡_, sym, ap, _∙_}
+use mathlib.Core.Bool.{Bool, true, false, _||_, cond}
+use mathlib.Core.List.{List}
+use mathlib.Core.Logic.{_≢_}
+use Prim.Native.Nat.{ℕ, zero, suc, _≤_, _<_}
+use native.Mathlib.Omega.{arith}
+use lib.Dec.{eqb, leb}
+use borrow.Author.Tests.{leb-true, le-leb, lt-leb, ne-eqb}
+use Rattle.vram.specs.RefusalLaws.{both}
+use Rattle.vram.specs.Refusal.{writeRefusal, loadRefusal, fullRefusal, splitRefusal, refusal}
+use Rattle.vram.specs.Kinds.{tagOf, loads}
+use Rattle.list.specs.Tags.{byte, word, known, lenOf, cycleOf}
+use Rattle.vram.specs.CaseLaws.{refusal-word, refusal-block, refusal-colour, refusal-mask, refusal-reset, refusal-full, refusal-split, tag-word, tag-block, tag-colour, tag-mask, tag-reset, tag-full, tag-split, loads-tag}
+
+-- a body has at most ten bytes
+pub len-most : (t : ℕ) → lenOf t ≤ 10
+unfolding lenOf
+len-most t = go (leb t 2) (leb t 4) (eqb t 5)
+  where
+    go : (p q r : Bool) → cond p 10 (cond q 3 (cond r 0 4)) ≤ 10
+    go true q r = omega arith
+    go false true r = omega arith
+    go false false true = omega arith
+    go false false false = omega arith
+
+pub len-write : (t : ℕ) → t < 3 → lenOf t ≡ 10
+unfolding lenOf
+len-write t h = rw (le-leb t 2 (omega arith))
+
+pub len-load : (t : ℕ) → 3 ≤ t → t < 5 → lenOf t ≡ 3
+unfolding lenOf
+len-load t h k = rw (lt-leb t 2 (omega arith), le-leb t 4 (omega arith))
+
+pub len-transfer : (t : ℕ) → 6 ≤ t → lenOf t ≡ 4
+unfolding lenOf
+len-transfer t h =
+    let n : t ≢ 5 = λ e. omega arith in
+    rw (lt-leb t 2 (omega arith), lt-leb t 4 (omega arith), ne-eqb t 5 n)
+
+-- ---- what refuses the cycle of a body, by its tag
+
+module _ (rows : ℕ) (made : Bool) (b : List ℕ) where
+  pub number-write : (t : ℕ) → 1 ≤ t → t < 3
+      → writeRefusal rows (word b 0) (word b 2) (byte b 6) (word b 7) (byte b 9) ≡ refusal rows made (cycleOf t b)
+  unfolding cycleOf
+  number-write zero p q = absurd (omega arith)
+  number-write (suc zero) p q = sym (refusal-word rows made (word b 0) (word b 2) (word b 4) (byte b 6) (word b 7) (byte b 9))
+  number-write (suc (suc zero)) p q = sym (refusal-block rows made (word b 0) (word b 2) (word b 4) (byte b 6) (word b 7) (byte b 9))
+  number-write (suc (suc (suc t))) p q = absurd (omega arith)
+
+  pub number-load : (t : ℕ) → 3 ≤ t → t < 5 → loadRefusal (byte b 2) ≡ refusal rows made (cycleOf t b)
+  unfolding cycleOf
+  number-load zero p q = absurd (omega arith)
+  number-load (suc zero) p q = absurd (omega arith)
+  number-load (suc (suc zero)) p q = absurd (omega arith)
+  number-load (suc (suc (suc zero))) p q = sym (refusal-colour rows made (word b 0) (byte b 2))
+  number-load (suc (suc (suc (suc zero)))) p q = sym (refusal-mask rows made (word b 0) (byte b 2))
+  number-load (suc (suc (suc (suc (suc t))))) p q = absurd (omega arith)
+
+  pub number-full : (t : ℕ) → t ≡ 6 → fullRefusal rows (word b 0) (byte b 2) ≡ refusal rows made (cycleOf t b)
+  unfolding cycleOf
+  number-full t e = rw e (sym (refusal-full rows made (word b 0) (byte b 2) (byte b 3)))
+
+  pub number-split : (t : ℕ) → t ≡ 7 → splitRefusal rows made (word b 0) (byte b 2) (byte b 3) ≡ refusal rows made (cycleOf t b)
+  unfolding cycleOf
+  number-split t e = rw e (sym (refusal-split rows made (word b 0) (byte b 2) (byte b 3)))
+
+  pub number-none : (t : ℕ) → t < 1 → 0 ≡ refusal rows made (cycleOf t b)
+  unfolding cycleOf
+  number-none zero p = sym (refusal-reset rows made)
+  number-none (suc t) p = absurd (omega arith)
+
+  pub number-reset : (t : ℕ) → 5 ≤ t → t ≢ 6 → t ≢ 7 → 0 ≡ refusal rows made (cycleOf t b)
+  unfolding cycleOf
+  number-reset t p q r =
+      let n : t ≢ 1 = λ e. omega arith in
+      let m : t ≢ 2 = λ e. omega arith in
+      let k : t ≢ 3 = λ e. omega arith in
+      let l : t ≢ 4 = λ e. omega arith in
+      rw (ne-eqb t 1 n, ne-eqb t 2 m, ne-eqb t 3 k, ne-eqb t 4 l, ne-eqb t 6 q, ne-eqb t 7 r) (sym (refusal-reset rows made))
+
+-- ---- the cycle of a body has the body's tag
+
+tag-within : (b : List ℕ) (t : ℕ) → 1 ≤ t → t ≤ 7 → tagOf (cycleOf t b) ≡ t
+unfolding cycleOf
+tag-within b zero p q = absurd (omega arith)
+tag-within b (suc zero) p q = tag-word (word b 0) (word b 2) (word b 4) (byte b 6) (word b 7) (byte b 9)
+tag-within b (suc (suc zero)) p q = tag-block (word b 0) (word b 2) (word b 4) (byte b 6) (word b 7) (byte b 9)
+tag-within b (suc (suc (suc zero))) p q = tag-colour (word b 0) (byte b 2)
+tag-within b (suc (suc (suc (suc zero)))) p q = tag-mask (word b 0) (byte b 2)
+tag-within b (suc (suc (suc (suc (suc zero))))) p q = tag-reset
+tag-within b (suc (suc (suc (suc (suc (suc zero)))))) p q = tag-full (word b 0) (byte b 2) (byte b 3)
+tag-within b (suc (suc (suc (suc (suc (suc (suc zero))))))) p q = tag-split (word b 0) (byte b 2) (byte b 3)
+tag-within b (suc (suc (suc (suc (suc (suc (suc (suc t)))))))) p q = absurd (omega arith)
+
+pub cycle-tag : (t : ℕ) (b : List ℕ) → known t ≡ true → tagOf (cycleOf t b) ≡ t
+unfolding known
+cycle-tag t b h =
+    let k = both (leb 1 t) (leb t 7) h in
+    tag-within b t (leb-true 1 t (k .0)) (leb-true t 7 (k .1))
+
+-- so that only tag 6 counts as a full transfer made
+pub cycle-loads : (t : ℕ) (b : List ℕ) (made : Bool) → known t ≡ true → loads (cycleOf t b) made ≡ (made || eqb t 6)
+cycle-loads t b made h = loads-tag (cycleOf t b) made ∙ ap (λ (x : ℕ). made || eqb x 6) (cycle-tag t b h)

@@ -1,0 +1,87 @@
+-- Laws of the verdict and of the cycles of fields. Assumes nothing.
+use mathlib.Core.Path.{_≡_, refl, sym, ap, _∙_}
+use mathlib.Core.Bool.{Bool, true, false, _||_}
+use mathlib.Core.List.{List, [], _∷_}
+use mathlib.Core.Logic.{_≢_}
+use Prim.Native.Nat.{ℕ, _+_, _≤_}
+use native.Mathlib.Omega.{arith}
+use lib.Dec.{eqb}
+use lib.ListN.{length, drop}
+use borrow.Author.Tests.{eq-eqb, ne-eqb, eqb-true}
+use Rattle.vram.specs.Refusal.{refusal}
+use Rattle.list.specs.declared.Bad.{Bad}
+use Rattle.vram.specs.CaseLaws.{refusal-range}
+use Rattle.list.specs.Tags.{lenOf, cycleOf}
+use Rattle.list.specs.TagLaws.{cycle-loads}
+use Rattle.list.specs.Fields.{Field, Reads, Unreadable, tag, body, whole, fieldOf, sizeOf}
+use Rattle.list.specs.FieldLaws.{whole-known, field-whole, field-not, fields-nil, fields-whole}
+use Rattle.list.specs.Meaning.{numberOf, madeBy, bad, verdict, cycles, cyclesOf}
+
+-- ---- a whole field
+
+module _ (s : List ℕ) (h : whole s ≡ true) where
+  pub size-whole : sizeOf (fieldOf s) ≡ 3 + lenOf (tag s)
+  unfolding sizeOf
+  size-whole = rw (field-whole s h)
+
+  pub number-whole : (rows : ℕ) (made : Bool) → numberOf rows made (fieldOf s) ≡ refusal rows made (cycleOf (tag s) (body s))
+  unfolding numberOf
+  number-whole rows made = rw (field-whole s h)
+
+  pub made-whole : (made : Bool) → madeBy (fieldOf s) made ≡ (made || eqb (tag s) 6)
+  unfolding madeBy
+  made-whole made = rw (field-whole s h) (cycle-loads (tag s) (body s) made (whole-known s h))
+
+  pub cycles-whole : cyclesOf s ≡ cycleOf (tag s) (body s) ∷ cyclesOf (drop (3 + lenOf (tag s)) s)
+  unfolding cycles
+  cycles-whole = rw (fields-whole s h, field-whole s h)
+
+pub number-not : (s : List ℕ) → whole s ≡ false → (rows : ℕ) (made : Bool) → numberOf rows made (fieldOf s) ≡ 4
+unfolding numberOf
+number-not s h rows made = rw (field-not s h)
+
+-- what refuses a field is 4 to 10
+pub number-range : (rows : ℕ) (made : Bool) (f : Field) → numberOf rows made f ≢ 0 → (4 ≤ numberOf rows made f) × (numberOf rows made f ≤ 10)
+unfolding numberOf
+number-range rows made (Reads c n) h = let r = refusal-range rows made c h in (omega (arith, r .0), r .1)
+number-range rows made Unreadable h = (omega arith, omega arith)
+
+-- an accepted field is whole
+pub accepted-whole : (s : List ℕ) (rows : ℕ) (made : Bool) → numberOf rows made (fieldOf s) ≡ 0 → whole s ≡ true
+accepted-whole s rows made z = go (whole s) refl
+  where
+    go : (t : Bool) → whole s ≡ t → t ≡ true
+    go true q = refl
+    go false q = absurd (omega (arith, number-not s q rows made, z))
+
+pub cycles-nil : (s : List ℕ) → length s ≤ 0 → cyclesOf s ≡ []
+unfolding cycles
+cycles-nil s h = rw (fields-nil s h)
+
+-- ---- the verdict, field by field
+
+pub verdict-nil : (rows : ℕ) (made : Bool) (at : ℕ) → verdict rows made at [] ≡ bad 0 0
+unfolding verdict
+verdict-nil rows made at = refl
+
+module _ (rows : ℕ) (made : Bool) (at : ℕ) (f : Field) (fs : List Field) where
+  pub verdict-good : numberOf rows made f ≡ 0 → verdict rows made at (f ∷ fs) ≡ verdict rows (madeBy f made) (at + sizeOf f) fs
+  unfolding verdict
+  verdict-good h = rw (eq-eqb (numberOf rows made f) 0 h)
+
+  pub verdict-bad : numberOf rows made f ≢ 0 → verdict rows made at (f ∷ fs) ≡ bad (numberOf rows made f) at
+  unfolding verdict
+  verdict-bad h = rw (ne-eqb (numberOf rows made f) 0 h)
+
+  -- where fields are accepted the first is, and so are those after it
+  module _ (h : verdict rows made at (f ∷ fs) .number ≡ 0) where
+    pub accepted-head : numberOf rows made f ≡ 0
+    unfolding verdict
+    accepted-head = go (eqb (numberOf rows made f) 0) refl
+      where
+        go : (t : Bool) → eqb (numberOf rows made f) 0 ≡ t → numberOf rows made f ≡ 0
+        go true q = eqb-true _ _ q
+        go false q = rw q at h
+
+    pub accepted-tail : verdict rows (madeBy f made) (at + sizeOf f) fs .number ≡ 0
+    accepted-tail = sym (ap (λ (v : Bad). v .number) (verdict-good accepted-head)) ∙ h

@@ -1,0 +1,107 @@
+// The check of a list: its bytes are read and `vram` is asked what it refuses, field by field.
+ghost use mathlib.Core.Path.{_≡_};
+ghost use Prim.Native.Nat.{ℕ, _+_, _<_};
+ghost use lib.ListN.{length};
+ghost use Rattle.vram.specs.Refusal.{writeRefusal, loadRefusal, fullRefusal, splitRefusal, refusal};
+ghost use Rattle.list.specs.Tags.{byte, word, lenOf, cycleOf};
+ghost use Rattle.list.specs.Fields.{fieldOf, fields};
+ghost use Rattle.list.specs.Meaning.{numberOf, verdict};
+use crate::Bad;
+use crate::fields::body_length;
+use crate::fields::whole;
+use crate::fields::word_at;
+use vram::refusal::full_refusal;
+use vram::refusal::load_refusal;
+use vram::refusal::split_refusal;
+use vram::refusal::write_refusal;
+
+fn write_number(body: &[u8], rows: usize) -> u32
+    requires { ⌜ length (now body) ≡ 10 ⌝ }
+    ensures { λ r. ⌜ r ≡ writeRefusal rows (word (now (body .entry)) 0) (word (now (body .entry)) 2) (byte (now (body .entry)) 6) (word (now (body .entry)) 7) (byte (now (body .entry)) 9) ⌝ }
+{
+    write_refusal(
+        rows,
+        word_at(body, 0),
+        word_at(body, 2),
+        body[6],
+        word_at(body, 7),
+        body[9],
+    )
+}
+
+fn load_number(body: &[u8]) -> u32
+    requires { ⌜ length (now body) ≡ 3 ⌝ }
+    ensures { λ r. ⌜ r ≡ loadRefusal (byte (now (body .entry)) 2) ⌝ }
+{
+    load_refusal(body[2])
+}
+
+fn full_number(body: &[u8], rows: usize) -> u32
+    requires { ⌜ length (now body) ≡ 4 ⌝ }
+    ensures { λ r. ⌜ r ≡ fullRefusal rows (word (now (body .entry)) 0) (byte (now (body .entry)) 2) ⌝ }
+{
+    full_refusal(rows, word_at(body, 0), body[2])
+}
+
+fn split_number(body: &[u8], rows: usize, loaded: bool) -> u32
+    requires { ⌜ length (now body) ≡ 4 ⌝ }
+    ensures { λ r. ⌜ r ≡ splitRefusal rows loaded (word (now (body .entry)) 0) (byte (now (body .entry)) 2) (byte (now (body .entry)) 3) ⌝ }
+{
+    split_refusal(rows, loaded, word_at(body, 0), body[2], body[3])
+}
+
+// 5 to 10: what refuses the cycle that a body says.
+fn body_number(tag: u8, body: &[u8], rows: usize, loaded: bool) -> u32
+    requires { ⌜ length (now body) ≡ lenOf tag ⌝ }
+    ensures { λ r. ⌜ r ≡ refusal rows loaded (cycleOf tag (now (body .entry))) ⌝ }
+{
+    match tag {
+        1 | 2 => write_number(body, rows),
+        3 | 4 => load_number(body),
+        6 => full_number(body, rows),
+        7 => split_number(body, rows, loaded),
+        _ => numbers::DONE,
+    }
+}
+
+// The number of the field at the head of some bytes.
+fn field_number(field: &[u8], rows: usize, loaded: bool) -> u32
+    requires { ⌜ 0 < length (now field) ⌝ }
+    ensures { λ r. ⌜ r ≡ numberOf rows loaded (fieldOf (now (field .entry))) ⌝ }
+{
+    if whole(field) {
+        let tag = field[0];
+        let end = 3 + body_length(tag);
+        body_number(tag, &field[3..end], rows, loaded)
+    } else {
+        numbers::FIELD_UNREADABLE
+    }
+}
+
+// The first refused field's number and offset. A full transfer counts for the fields after it.
+pub(crate) fn check(list: &[u8], rows: usize, loaded: bool) -> Bad
+    ensures { λ r. ⌜ r ≡ verdict rows loaded 0 (fields (now (list .entry))) ⌝ }
+{
+    let mut rest = list;
+    let mut made = loaded;
+    let bad = loop {
+        if rest.len() == 0 {
+            break Bad {
+                number: numbers::DONE,
+                place: 0,
+            };
+        }
+        let n = field_number(rest, rows, made);
+        if n != numbers::DONE {
+            break Bad {
+                number: n,
+                place: (list.len() - rest.len()) as u64,
+            };
+        }
+        let tag = rest[0];
+        let size = 3 + body_length(tag);
+        made = made | (tag == 6);
+        rest = &rest[size..];
+    };
+    bad
+}

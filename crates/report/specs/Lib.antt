@@ -1,0 +1,6 @@
+-- The text that `play` prints, and the laws about it.
+pub mod Text
+pub mod TextLaws
+pub mod Report
+pub mod ReportLaws
+pub mod Once

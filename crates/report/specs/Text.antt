@@ -1,0 +1,43 @@
+-- The text of a report, as bytes: document 01, "The program `play`". Assumes nothing.
+use Prim.Native.Nat.{ℕ, zero, suc, _+_, _/_, _%_}
+use mathlib.Core.Bool.{cond}
+use mathlib.Core.List.{List, [], _∷_, _++_}
+use lib.Dec.{eqb, leb, ltb}
+
+-- ---- numbers
+
+-- a digit, 0 to 9 and then A to F
+unfoldable pub digit : ℕ → ℕ
+digit d = cond (ltb d 10) (48 + d) (55 + d)
+
+-- in decimal, of a number below 10,000
+unfoldable pub decimal : ℕ → List ℕ
+decimal n =
+    cond (ltb n 10) (digit n ∷ [])
+    (cond (ltb n 100) (digit (n / 10) ∷ digit (n % 10) ∷ [])
+    (cond (ltb n 1000) (digit (n / 100) ∷ digit (n / 10 % 10) ∷ digit (n % 10) ∷ [])
+    (digit (n / 1000) ∷ digit (n / 100 % 10) ∷ digit (n / 10 % 10) ∷ digit (n % 10) ∷ [])))
+
+-- a word in four capital hex digits
+unfoldable pub hex : ℕ → List ℕ
+hex w = digit (w / 4096 % 16) ∷ digit (w / 256 % 16) ∷ digit (w / 16 % 16) ∷ digit (w % 16) ∷ []
+
+-- ---- lines
+
+-- `answer`, the number, `at`, the place
+unfoldable pub answerLine : ℕ → ℕ → List ℕ
+answerLine number place =
+    (97 ∷ 110 ∷ 115 ∷ 119 ∷ 101 ∷ 114 ∷ 32 ∷ []) ++ (decimal number ++ ((32 ∷ 97 ∷ 116 ∷ 32 ∷ []) ++ (decimal place ++ (10 ∷ []))))
+
+-- row and column in decimal, the word in four capital hex digits
+unfoldable pub wordLine : ℕ → ℕ → List ℕ
+wordLine i w = decimal (i / 512) ++ (32 ∷ (decimal (i % 512) ++ (32 ∷ (hex w ++ (10 ∷ [])))))
+
+-- a line for each word not 0, by row and then column; the first word given is word i
+unfoldable pub wordLines : ℕ → List ℕ → List ℕ
+wordLines i [] = []
+wordLines i (w ∷ ws) = cond (eqb w 0) [] (wordLine i w) ++ wordLines (suc i) ws
+
+-- `too long`
+abbrev pub tooLong : List ℕ
+tooLong = 116 ∷ 111 ∷ 111 ∷ 32 ∷ 108 ∷ 111 ∷ 110 ∷ 103 ∷ 10 ∷ []

@@ -1,0 +1,142 @@
+-- Laws of texts: how one is written after another, and how long they are. Assumes nothing.
+use mathlib.Core.Path.{_≡_, refl, sym, ap, ap₂, _∙_}
+use mathlib.Core.Bool.{Bool, true, false, cond}
+use mathlib.Core.List.{List, [], _∷_, _++_, append-assoc, append-nil}
+use Prim.Native.Nat.{ℕ, zero, suc, _+_, _*_, _/_, _%_, _≤_, _<_}
+use native.Mathlib.Omega.{arith}
+use native.Mathlib.Nat.{add-zero}
+use native.Mathlib.Numerals.{add-one}
+use lib.Dec.{eqb, ltb}
+use lib.ListN.{length, getD, set, take, drop, length-append, length-take}
+use lib.Seq.{sets, sets-eq, length-sets, take-suc}
+use borrow.Author.Tests.{lt-ltb, le-ltb}
+use Rattle.report.specs.Text.{digit, decimal, hex, answerLine, wordLine, wordLines}
+
+-- ---- bytes written from a place of a buffer on, and the place after them
+
+pub record Put (t : List ℕ) (at : ℕ) (bytes t′ : List ℕ) (at′ : ℕ) : Type 0 where
+  pub text : t′ ≡ sets t at bytes
+  pub end : at′ ≡ at + length bytes
+
+sets-append : (a b t : List ℕ) (at : ℕ) → sets (sets t at a) (at + length a) b ≡ sets t at (a ++ b)
+sets-append [] b t at = ap (λ (n : ℕ). sets t n b) (add-zero at)
+sets-append (x ∷ a) b t at =
+    let e : at + suc (length a) ≡ suc at + length a = omega arith in
+    ap (λ (n : ℕ). sets (sets (set t at x) (suc at) a) n b) e ∙ sets-append a b (set t at x) (suc at)
+
+length-take-is : (n : ℕ) (l : List ℕ) → n ≤ length l → length (take n l) ≡ n
+length-take-is n l h = simp length-take (omega arith)
+
+pub put-nothing : (t : List ℕ) (at : ℕ) → Put t at [] t at
+put-nothing t at = record { text = refl; end = sym (add-zero at) }
+
+-- one text after another
+pub put-then : {t t₁ t₂ a b : List ℕ} {at at₁ at₂ : ℕ} → Put t at a t₁ at₁ → Put t₁ at₁ b t₂ at₂ → Put t at (a ++ b) t₂ at₂
+put-then {t} {t₁} {t₂} {a} {b} {at} {at₁} {at₂} p q =
+    record {
+      text = q .text ∙ ap₂ (λ (x : List ℕ) (n : ℕ). sets x n b) (p .text) (p .end) ∙ sets-append a b t at;
+      end = q .end ∙ ap (λ (n : ℕ). n + length b) (p .end) ∙ omega (arith, length-append a b);
+    }
+
+-- the last byte, and a byte with others after it, by what the byte is
+pub put-last : {t t₁ : List ℕ} {at at₁ x d : ℕ} → Put t at (x ∷ []) t₁ at₁ → x ≡ d → Put t at (d ∷ []) t₁ at₁
+put-last p e = rw (← e) p
+
+pub put-first : {t t₁ t₂ rest : List ℕ} {at at₁ at₂ x d : ℕ} → Put t at (x ∷ []) t₁ at₁ → x ≡ d → Put t₁ at₁ rest t₂ at₂ → Put t at (d ∷ rest) t₂ at₂
+put-first p e q = put-then (put-last p e) q
+
+pub put-size : {t t′ bs : List ℕ} {at at′ : ℕ} → Put t at bs t′ at′ → length t′ ≡ length t
+put-size {t} {t′} {bs} {at} p = ap length (p .text) ∙ length-sets t at bs
+
+-- room for more is left
+pub put-room : {t t′ bs : List ℕ} {at at′ : ℕ} (k m : ℕ) → Put t at bs t′ at′ → length bs ≤ k → at + (k + m) ≤ length t → at′ + m ≤ length t′
+put-room k m p h l = omega (arith, p .end, put-size p)
+
+-- one byte more of some
+pub put-next : (t now bs : List ℕ) (at i : ℕ) → i < length bs → now ≡ sets t at (take i bs) → set now (at + i) (getD bs i 0) ≡ sets t at (take (i + 1) bs)
+put-next t now bs at i h e =
+    let s : take (i + 1) bs ≡ take i bs ++ getD bs i 0 ∷ [] = ap (λ (n : ℕ). take n bs) (add-one i) ∙ take-suc bs i 0 h in
+    let n : at + i ≡ at + length (take i bs) = ap (λ (x : ℕ). at + x) (sym (length-take-is i bs (omega arith))) in
+    ap₂ (λ (x : List ℕ) (k : ℕ). set x k (getD bs i 0)) e n ∙ sets-append (take i bs) (getD bs i 0 ∷ []) t at ∙ ap (sets t at) (sym s)
+
+-- from the start of a buffer, with room: the text, and the spare bytes as they were
+pub put-over : {t t′ bs : List ℕ} {at′ : ℕ} → Put t 0 bs t′ at′ → length bs ≤ length t → t′ ≡ bs ++ drop (length bs) t
+put-over {t} {t′} {bs} p h =
+    let e : 0 + length bs ≡ length bs = omega arith in
+    p .text ∙ sets-eq bs t 0 (omega arith) ∙ ap (λ (n : ℕ). bs ++ drop n t) e
+
+-- ---- lengths
+
+pub decimal-most : (n : ℕ) → (length (decimal n) ≤ 4) × (1 ≤ length (decimal n))
+unfolding decimal
+decimal-most n = go (ltb n 10) (ltb n 100) (ltb n 1000)
+  where
+    bytes : Bool → Bool → Bool → List ℕ
+    bytes a b c =
+        cond a (digit n ∷ [])
+        (cond b (digit (n / 10) ∷ digit (n % 10) ∷ [])
+        (cond c (digit (n / 100) ∷ digit (n / 10 % 10) ∷ digit (n % 10) ∷ [])
+        (digit (n / 1000) ∷ digit (n / 100 % 10) ∷ digit (n / 10 % 10) ∷ digit (n % 10) ∷ [])))
+
+    go : (a b c : Bool) → (length (bytes a b c) ≤ 4) × (1 ≤ length (bytes a b c))
+    go true b c = (omega arith, omega arith)
+    go false true c = (omega arith, omega arith)
+    go false false true = (omega arith, omega arith)
+    go false false false = (omega arith, omega arith)
+
+-- a line of a word has at most 15 bytes
+pub line-most : (i w : ℕ) → length (wordLine i w) ≤ 15
+unfolding wordLine hex
+line-most i w =
+    let a = decimal-most (i / 512) in
+    let b = decimal-most (i % 512) in
+    simp length-append (omega arith)
+
+-- ---- lines, one word more
+
+abbrev pub lineOf : ℕ → ℕ → List ℕ
+lineOf i w = cond (eqb w 0) [] (wordLine i w)
+
+pub lineOf-most : (i w : ℕ) → length (lineOf i w) ≤ 15
+lineOf-most i w = go (eqb w 0)
+  where
+    go : (t : Bool) → length (cond t [] (wordLine i w)) ≤ 15
+    go true = omega arith
+    go false = line-most i w
+
+lines-append : (i : ℕ) (ws : List ℕ) (w : ℕ) → wordLines i (ws ++ w ∷ []) ≡ wordLines i ws ++ lineOf (i + length ws) w
+unfolding wordLines
+lines-append i [] w = append-nil (lineOf i w) ∙ ap (λ (n : ℕ). lineOf n w) (sym (add-zero i))
+lines-append i (v ∷ ws) w =
+    let e : suc i + length ws ≡ i + suc (length ws) = omega arith in
+    ap (λ (l : List ℕ). lineOf i v ++ l) (lines-append (suc i) ws w ∙ ap (λ (n : ℕ). wordLines (suc i) ws ++ lineOf n w) e)
+    ∙ sym (append-assoc (lineOf i v) (wordLines (suc i) ws) (lineOf (i + suc (length ws)) w))
+
+pub lines-more : (ws : List ℕ) (i : ℕ) → i < length ws → wordLines 0 (take (i + 1) ws) ≡ wordLines 0 (take i ws) ++ lineOf i (getD ws i 0)
+lines-more ws i h =
+    let t : take (i + 1) ws ≡ take i ws ++ getD ws i 0 ∷ [] = ap (λ (n : ℕ). take n ws) (add-one i) ∙ take-suc ws i 0 h in
+    let e : 0 + length (take i ws) ≡ i = simp length-take (omega arith) in
+    ap (wordLines 0) t ∙ lines-append 0 (take i ws) (getD ws i 0) ∙ ap (λ (n : ℕ). wordLines 0 (take i ws) ++ lineOf n (getD ws i 0)) e
+
+wordLines-none : wordLines 0 [] ≡ []
+unfolding wordLines
+wordLines-none = refl
+
+pub lines-most : (ws : List ℕ) (i : ℕ) → i ≤ length ws → length (wordLines 0 (take i ws)) ≤ 15 * i
+lines-most ws i h = go i h
+  where
+    go : (i : ℕ) → i ≤ length ws → length (wordLines 0 (take i ws)) ≤ 15 * i
+    go zero h = rw wordLines-none (omega arith)
+    go (suc i) h =
+        let m = go i (omega arith) in
+        let k = lineOf-most i (getD ws i 0) in
+        rw (← add-one i, lines-more ws i (omega arith), length-append) (omega arith)
+
+pub hex-most : (w : ℕ) → length (hex w) ≤ 4
+unfolding hex
+hex-most w = omega arith
+
+-- the lines of all words, by those of the first and the last one
+pub put-lines : {t t₁ t₂ : List ℕ} {at at₁ at₂ : ℕ} (ws : List ℕ) (i w : ℕ) → i < length ws → w ≡ getD ws i 0
+    → Put t at (wordLines 0 (take i ws)) t₁ at₁ → Put t₁ at₁ (lineOf i w) t₂ at₂ → Put t at (wordLines 0 (take (i + 1) ws)) t₂ at₂
+put-lines ws i w h e p q = rw (lines-more ws i h, ← e) (put-then p q)

@@ -1,0 +1,124 @@
+// Text, byte after byte into a buffer. Each function answers the place after what it wrote.
+ghost use mathlib.Core.Path.{_≡_};
+ghost use mathlib.Core.List.{[], _∷_};
+ghost use Prim.Native.Nat.{ℕ, _+_, _*_, _<_, _≤_};
+ghost use lib.ListN.{length};
+ghost use Rattle.report.specs.Text.{digit, decimal, hex, answerLine, wordLine, wordLines};
+ghost use Rattle.report.specs.TextLaws.{Put, lineOf};
+
+// A digit, 0 to 9 and then A to F.
+fn digit(d: u32) -> u8
+    requires { ⌜ d < 16 ⌝ }
+    ensures { λ r. ⌜ r ≡ digit d ⌝ }
+{
+    if d < 10 {
+        (48 + d) as u8
+    } else {
+        (55 + d) as u8
+    }
+}
+
+fn put_byte(text: &mut [u8], at: usize, byte: u8) -> usize
+    requires { ⌜ at < length (now text) ⌝ }
+    ensures { λ r. ⌜ Put (now (text .entry)) at (byte ∷ []) (now (text .exit)) r ⌝ }
+{
+    text[at] = byte;
+    at + 1
+}
+
+// A number below 10,000 in decimal.
+fn put_decimal(text: &mut [u8], at: usize, n: u32) -> usize
+    requires { ⌜ (n < 10000) × (at + 4 ≤ length (now text)) ⌝ }
+    ensures { λ r. ⌜ Put (now (text .entry)) at (decimal n) (now (text .exit)) r ⌝ }
+{
+    if n < 10 {
+        return put_byte(text, at, digit(n));
+    }
+    if n < 100 {
+        let at = put_byte(text, at, digit(n / 10));
+        return put_byte(text, at, digit(n % 10));
+    }
+    if n < 1000 {
+        let at = put_byte(text, at, digit(n / 100));
+        let at = put_byte(text, at, digit(n / 10 % 10));
+        return put_byte(text, at, digit(n % 10));
+    }
+    let at = put_byte(text, at, digit(n / 1000));
+    let at = put_byte(text, at, digit(n / 100 % 10));
+    let at = put_byte(text, at, digit(n / 10 % 10));
+    put_byte(text, at, digit(n % 10))
+}
+
+// A word in four capital hex digits.
+fn put_hex(text: &mut [u8], at: usize, word: u32) -> usize
+    requires { ⌜ at + 4 ≤ length (now text) ⌝ }
+    ensures { λ r. ⌜ Put (now (text .entry)) at (hex word) (now (text .exit)) r ⌝ }
+{
+    let at = put_byte(text, at, digit(word / 4096 % 16));
+    let at = put_byte(text, at, digit(word / 256 % 16));
+    let at = put_byte(text, at, digit(word / 16 % 16));
+    put_byte(text, at, digit(word % 16))
+}
+
+// A line of a word: row and column in decimal, the word in hex.
+fn put_line(text: &mut [u8], at: usize, i: u32, word: u32) -> usize
+    requires { ⌜ (i < 32768) × (at + 15 ≤ length (now text)) ⌝ }
+    ensures { λ r. ⌜ Put (now (text .entry)) at (wordLine i word) (now (text .exit)) r ⌝ }
+{
+    let at = put_decimal(text, at, i / 512);
+    let at = put_byte(text, at, b' ');
+    let at = put_decimal(text, at, i % 512);
+    let at = put_byte(text, at, b' ');
+    let at = put_hex(text, at, word);
+    put_byte(text, at, b'\n')
+}
+
+// A line where the word is not 0.
+fn put_word(text: &mut [u8], at: usize, i: u32, word: u32) -> usize
+    requires { ⌜ (i < 32768) × (at + 15 ≤ length (now text)) ⌝ }
+    ensures { λ r. ⌜ Put (now (text .entry)) at (lineOf i word) (now (text .exit)) r ⌝ }
+{
+    if word == 0 {
+        return at;
+    }
+    put_line(text, at, i, word)
+}
+
+// A line for each word that is not 0.
+pub(crate) fn put_words(text: &mut [u8], at: usize, memory: &[u16]) -> usize
+    requires { ⌜ (length (now memory) ≤ 32768) × (at + 15 * length (now memory) ≤ length (now text)) ⌝ }
+    ensures { λ r. ⌜ Put (now (text .entry)) at (wordLines 0 (now (memory .entry))) (now (text .exit)) r ⌝ }
+{
+    let mut end = at;
+    let mut i = 0;
+    while i < memory.len() {
+        end = put_word(text, end, i as u32, memory[i] as u32);
+        i += 1;
+    }
+    end
+}
+
+// The first line.
+pub(crate) fn put_answer(text: &mut [u8], at: usize, number: u32, place: u32) -> usize
+    requires { ⌜ (number < 10000) × (place < 10000) × (at + 20 ≤ length (now text)) ⌝ }
+    ensures { λ r. ⌜ Put (now (text .entry)) at (answerLine number place) (now (text .exit)) r ⌝ }
+{
+    let at = put_bytes(text, at, b"answer ");
+    let at = put_decimal(text, at, number);
+    let at = put_bytes(text, at, b" at ");
+    let at = put_decimal(text, at, place);
+    put_byte(text, at, b'\n')
+}
+
+// Some bytes, as they are.
+pub(crate) fn put_bytes(text: &mut [u8], at: usize, bytes: &[u8]) -> usize
+    requires { ⌜ at + length (now bytes) ≤ length (now text) ⌝ }
+    ensures { λ r. ⌜ Put (now (text .entry)) at (now (bytes .entry)) (now (text .exit)) r ⌝ }
+{
+    let mut i = 0;
+    while i < bytes.len() {
+        text[at + i] = bytes[i];
+        i += 1;
+    }
+    at + bytes.len()
+}

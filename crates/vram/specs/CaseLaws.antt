@@ -1,0 +1,171 @@
+-- The definitions case by case, so that other crates need not open them. Assumes nothing.
+use mathlib.Core.Path.{_≡_, refl, _∙_}
+use mathlib.Core.Bool.{Bool, true, false, _&&_, _||_}
+use mathlib.Core.List.{List, [], _∷_}
+use mathlib.Core.Logic.{_≢_, _⊎_, inl, inr, ⊎-elim}
+use Prim.Native.Nat.{ℕ, _≤_}
+use native.Mathlib.Omega.{arith}
+use lib.Dec.{eqb, leb, ltb}
+use Rattle.numbers.specs.Refuse.{refuse}
+use Rattle.numbers.specs.RefuseLaws.{firstOf-later}
+use Rattle.vram.specs.declared.Cycle.{Cycle}
+use Rattle.vram.specs.declared.Cycle.the-variants.{WordWrite, BlockWrite, LoadColour, LoadMask, ResetRefresh, FullTransfer, SplitTransfer}
+use Rattle.vram.specs.Board.{Board}
+use Rattle.vram.specs.Refusal.{strobesOk, maskingOk, writeRefusal, loadRefusal, fullRefusal, splitRefusal, refusal}
+use Rattle.vram.specs.Step.{givenOf, rowsOf, number, Engine, runBy, step, run}
+use Rattle.vram.specs.StepLaws.{run-holds}
+use Rattle.vram.specs.RuleLaws.{step-given}
+use Rattle.vram.specs.Calls.{cycleCall}
+use Rattle.vram.specs.Kinds.{tagOf, loads}
+
+-- ---- a cycle's call leaves what a step leaves
+
+pub cycle-after : (c : Cycle) (b : Board) → cycleCall c b .after ≡ step c b
+unfolding cycleCall
+cycle-after c b = refl
+
+-- ---- a run, cycle by cycle
+
+pub run-none : (e : Engine) (b : Board) → runBy e [] b ≡ b
+unfolding runBy
+run-none e b = refl
+
+pub run-next : (e : Engine) (c : Cycle) (l : List Cycle) (b : Board) → runBy e (c ∷ l) b ≡ runBy e l (e c b)
+unfolding runBy
+run-next e c l b = refl
+
+-- what is given stays as it was
+pub run-given : (l : List Cycle) (b : Board) → givenOf (run l b) ≡ givenOf b
+run-given l b = run-holds (λ x. givenOf x ≡ givenOf b) step (λ c x k. step-given c x ∙ k) l b refl
+
+-- ---- where the state and the lengths are as they should be, a cycle's number is its refusal
+
+pub number-is : (c : Cycle) (b : Board) → givenOf b ≡ 0 → number c b ≡ refusal (rowsOf b) (b .state .loaded) c
+unfolding number
+number-is c b g = firstOf-later (givenOf b) (refusal (rowsOf b) (b .state .loaded) c) g
+
+-- ---- the refusal of each kind of cycle
+
+module _ (rows : ℕ) (made : Bool) where
+  pub refusal-word : (row column word masking mask strobes : ℕ)
+      → refusal rows made (WordWrite row column word masking mask strobes) ≡ writeRefusal rows row column masking mask strobes
+  unfolding refusal
+  refusal-word row column word masking mask strobes = refl
+
+  pub refusal-block : (row column columns masking mask strobes : ℕ)
+      → refusal rows made (BlockWrite row column columns masking mask strobes) ≡ writeRefusal rows row column masking mask strobes
+  unfolding refusal
+  refusal-block row column columns masking mask strobes = refl
+
+  pub refusal-colour : (word strobes : ℕ) → refusal rows made (LoadColour word strobes) ≡ loadRefusal strobes
+  unfolding refusal
+  refusal-colour word strobes = refl
+
+  pub refusal-mask : (word strobes : ℕ) → refusal rows made (LoadMask word strobes) ≡ loadRefusal strobes
+  unfolding refusal
+  refusal-mask word strobes = refl
+
+  pub refusal-reset : refusal rows made ResetRefresh ≡ 0
+  unfolding refusal
+  refusal-reset = refl
+
+  pub refusal-full : (row half tap : ℕ) → refusal rows made (FullTransfer row half tap) ≡ fullRefusal rows row half
+  unfolding refusal
+  refusal-full row half tap = refl
+
+  pub refusal-split : (row half tap : ℕ) → refusal rows made (SplitTransfer row half tap) ≡ splitRefusal rows made row half tap
+  unfolding refusal
+  refusal-split row half tap = refl
+
+-- what refuses a cycle is 5 to 10
+
+abbrev Range : ℕ → Type 0
+Range n = (n ≡ 0) ⊎ ((5 ≤ n) × (n ≤ 10))
+
+within : (holds : Bool) (n later : ℕ) → 5 ≤ n → n ≤ 10 → Range later → Range (refuse holds n later)
+within true n later p q r = r
+within false n later p q r = inr (p, q)
+
+write-among : (rows row column masking mask strobes : ℕ) → Range (writeRefusal rows row column masking mask strobes)
+unfolding writeRefusal
+write-among rows row column masking mask strobes =
+    within (ltb row rows) 5 _ (omega arith) (omega arith)
+    (within (leb column 511) 6 _ (omega arith) (omega arith)
+    (within (strobesOk strobes) 7 _ (omega arith) (omega arith) (within (maskingOk masking mask) 8 0 (omega arith) (omega arith) (inl refl))))
+
+load-among : (strobes : ℕ) → Range (loadRefusal strobes)
+unfolding loadRefusal
+load-among strobes = within (strobesOk strobes) 7 0 (omega arith) (omega arith) (inl refl)
+
+full-among : (rows row half : ℕ) → Range (fullRefusal rows row half)
+unfolding fullRefusal
+full-among rows row half = within (ltb row rows) 5 _ (omega arith) (omega arith) (within (leb half 1) 9 0 (omega arith) (omega arith) (inl refl))
+
+split-among : (rows : ℕ) (made : Bool) (row half tap : ℕ) → Range (splitRefusal rows made row half tap)
+unfolding splitRefusal
+split-among rows made row half tap =
+    within (ltb row rows) 5 _ (omega arith) (omega arith)
+    (within (leb half 1 && leb tap 127) 9 _ (omega arith) (omega arith) (within made 10 0 (omega arith) (omega arith) (inl refl)))
+
+refusal-among : (rows : ℕ) (made : Bool) (c : Cycle) → Range (refusal rows made c)
+unfolding refusal
+refusal-among rows made (WordWrite row column word masking mask strobes) = write-among rows row column masking mask strobes
+refusal-among rows made (BlockWrite row column columns masking mask strobes) = write-among rows row column masking mask strobes
+refusal-among rows made (LoadColour word strobes) = load-among strobes
+refusal-among rows made (LoadMask word strobes) = load-among strobes
+refusal-among rows made ResetRefresh = inl refl
+refusal-among rows made (FullTransfer row half tap) = full-among rows row half
+refusal-among rows made (SplitTransfer row half tap) = split-among rows made row half tap
+
+pub refusal-range : (rows : ℕ) (made : Bool) (c : Cycle) → refusal rows made c ≢ 0 → (5 ≤ refusal rows made c) × (refusal rows made c ≤ 10)
+refusal-range rows made c h = ⊎-elim (λ e. absurd (h e)) (λ r. r) (refusal-among rows made c)
+
+-- ---- tags
+
+pub tag-word : (row column word masking mask strobes : ℕ) → tagOf (WordWrite row column word masking mask strobes) ≡ 1
+unfolding tagOf
+tag-word row column word masking mask strobes = refl
+
+pub tag-block : (row column columns masking mask strobes : ℕ) → tagOf (BlockWrite row column columns masking mask strobes) ≡ 2
+unfolding tagOf
+tag-block row column columns masking mask strobes = refl
+
+pub tag-colour : (word strobes : ℕ) → tagOf (LoadColour word strobes) ≡ 3
+unfolding tagOf
+tag-colour word strobes = refl
+
+pub tag-mask : (word strobes : ℕ) → tagOf (LoadMask word strobes) ≡ 4
+unfolding tagOf
+tag-mask word strobes = refl
+
+pub tag-reset : tagOf ResetRefresh ≡ 5
+unfolding tagOf
+tag-reset = refl
+
+pub tag-full : (row half tap : ℕ) → tagOf (FullTransfer row half tap) ≡ 6
+unfolding tagOf
+tag-full row half tap = refl
+
+pub tag-split : (row half tap : ℕ) → tagOf (SplitTransfer row half tap) ≡ 7
+unfolding tagOf
+tag-split row half tap = refl
+
+-- only a full transfer (6) counts as one made
+
+either : (p : Bool) → p ≡ (p || false)
+either true = refl
+either false = refl
+
+always : (p : Bool) → true ≡ (p || true)
+always true = refl
+always false = refl
+
+pub loads-tag : (c : Cycle) (made : Bool) → loads c made ≡ (made || eqb (tagOf c) 6)
+unfolding loads tagOf
+loads-tag (WordWrite row column word masking mask strobes) made = either made
+loads-tag (BlockWrite row column columns masking mask strobes) made = either made
+loads-tag (LoadColour word strobes) made = either made
+loads-tag (LoadMask word strobes) made = either made
+loads-tag ResetRefresh made = either made
+loads-tag (FullTransfer row half tap) made = always made
+loads-tag (SplitTransfer row half tap) made = either made
