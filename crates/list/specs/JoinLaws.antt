@@ -2,7 +2,7 @@
 use mathlib.Core.Path.{_≡_, refl, sym, ap, ap₂, _∙_}
 use mathlib.Core.Bool.{Bool, true, false, cond}
 use mathlib.Core.List.{List, [], _∷_, _++_}
-use Prim.Native.Nat.{ℕ, _+_, _/_}
+use Prim.Native.Nat.{ℕ, _+_}
 use native.Mathlib.Omega.{arith}
 use native.Mathlib.Nat.{add-assoc, add-zero}
 use lib.Dec.{eqb}
@@ -13,8 +13,8 @@ use Rattle.vram.specs.Board.{Board}
 use Rattle.vram.specs.Step.{givenOf, rowsOf, number, step, run}
 use Rattle.vram.specs.StepLaws.{run-append}
 use Rattle.vram.specs.KeptLaws.{step-loaded}
-use Rattle.vram.specs.RuleLaws.{step-sized, run-sized, step-given}
-use Rattle.vram.specs.CaseLaws.{run-none, run-next, number-is, run-given}
+use Rattle.vram.specs.RuleLaws.{step-given}
+use Rattle.vram.specs.CaseLaws.{run-none, run-next, step-rows, run-rows, number-is, run-given}
 use Rattle.list.specs.declared.Bad.{Bad}
 use Rattle.list.specs.Fields.{Field, Reads, Unreadable, sizeOf, fields}
 use Rattle.list.specs.FieldLaws.{fields-append}
@@ -72,11 +72,10 @@ run-loaded at [] b g h = ap (λ (x : Board). x .state .loaded) (run-none step b)
 run-loaded at (Reads c n ∷ fs) b g h =
     let z : number c b ≡ 0 = number-is c b g ∙ accepted-head (rowsOf b) (b .state .loaded) at (Reads c n) fs h in
     let l = step-loaded b c z in
-    let r : rowsOf (step c b) ≡ rowsOf b = ap (λ (k : ℕ). k / 512) (step-sized c b .memory) in
     let t = accepted-tail (rowsOf b) (b .state .loaded) at (Reads c n) fs h in
     ap (λ (x : Board). x .state .loaded) (run-next step c (cycles fs) b)
     ∙ run-loaded (at + sizeOf (Reads c n)) fs (step c b) (step-given c b ∙ g)
-    (ap₂ (λ (k : ℕ) (made : Bool). verdict k made (at + sizeOf (Reads c n)) fs .number) r l ∙ t)
+    (ap₂ (λ (k : ℕ) (made : Bool). verdict k made (at + sizeOf (Reads c n)) fs .number) (step-rows c b) l ∙ t)
     ∙ ap (madeByAll fs) l
 run-loaded at (Unreadable ∷ fs) b g h = absurd (omega (arith, accepted-head (rowsOf b) (b .state .loaded) at Unreadable fs h))
 
@@ -96,7 +95,7 @@ module _ (a : List ℕ) (x : Board) (h : verdictOf a x .number ≡ 0) where
 
   -- rows fitted stay
   call-rows : rowsOf (runCall a x .after) ≡ rowsOf x
-  call-rows = ap rowsOf (call-runs a x h) ∙ ap (λ (k : ℕ). k / 512) (run-sized (cyclesOf a) x .memory)
+  call-rows = ap rowsOf (call-runs a x h) ∙ run-rows (cyclesOf a) x
 
   call-given-kept : givenOf (runCall a x .after) ≡ 0
   call-given-kept = ap givenOf (call-runs a x h) ∙ run-given (cyclesOf a) x ∙ accepted-given a x h

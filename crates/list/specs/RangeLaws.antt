@@ -10,21 +10,23 @@ use lib.ListN.{length, drop, length-drop}
 use borrow.Author.Tests.{eqb-true, eqb-false}
 use Rattle.vram.specs.Board.{Board}
 use Rattle.vram.specs.Step.{givenOf, rowsOf}
-use Rattle.vram.specs.RefusalLaws.{given-most, refusal-most}
+use Rattle.vram.specs.RefusalLaws.{given-most}
 use Rattle.list.specs.declared.Bad.{Bad}
 use Rattle.list.specs.Tags.{lenOf}
 use Rattle.list.specs.Fields.{Field, Reads, Unreadable, tag, whole, fieldOf, sizeOf, fields}
 use Rattle.list.specs.FieldLaws.{whole-length, fields-nil, fields-whole, fields-not}
 use Rattle.list.specs.Meaning.{numberOf, madeBy, bad, verdict, verdictOf}
 use Rattle.list.specs.CallLaws.{verdict-given, verdict-fields}
-use Rattle.list.specs.VerdictLaws.{size-whole, number-not, verdict-nil, verdict-good, verdict-bad}
+use Rattle.list.specs.VerdictLaws.{size-whole, number-range, verdict-nil, verdict-good, verdict-bad}
 
 -- ---- the number is one of the table's
 
 number-most : (rows : ℕ) (made : Bool) (f : Field) → numberOf rows made f ≤ 10
-unfolding numberOf
-number-most rows made (Reads c n) = refusal-most rows made c
-number-most rows made Unreadable = omega arith
+number-most rows made f = go (eqb (numberOf rows made f) 0) refl
+  where
+    go : (t : Bool) → eqb (numberOf rows made f) 0 ≡ t → numberOf rows made f ≤ 10
+    go true e = let z : numberOf rows made f ≡ 0 = eqb-true _ _ e in omega arith
+    go false e = number-range rows made f (eqb-false _ _ e) .1
 
 pub verdict-most : (rows : ℕ) (made : Bool) (at : ℕ) (fs : List Field) → verdict rows made at fs .number ≤ 10
 verdict-most rows made at [] = rw (verdict-nil rows made at) (omega arith)

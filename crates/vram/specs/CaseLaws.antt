@@ -1,9 +1,9 @@
 -- The definitions case by case, so that other crates need not open them. Assumes nothing.
-use mathlib.Core.Path.{_≡_, refl, _∙_}
+use mathlib.Core.Path.{_≡_, refl, ap, _∙_}
 use mathlib.Core.Bool.{Bool, true, false, _&&_, _||_}
 use mathlib.Core.List.{List, [], _∷_}
 use mathlib.Core.Logic.{_≢_, _⊎_, inl, inr, ⊎-elim}
-use Prim.Native.Nat.{ℕ, _≤_}
+use Prim.Native.Nat.{ℕ, _/_, _≤_}
 use native.Mathlib.Omega.{arith}
 use lib.Dec.{eqb, leb, ltb}
 use Rattle.numbers.specs.Refuse.{refuse}
@@ -14,7 +14,7 @@ use Rattle.vram.specs.Board.{Board}
 use Rattle.vram.specs.Refusal.{strobesOk, maskingOk, writeRefusal, loadRefusal, fullRefusal, splitRefusal, refusal}
 use Rattle.vram.specs.Step.{givenOf, rowsOf, number, Engine, runBy, step, run}
 use Rattle.vram.specs.StepLaws.{run-holds}
-use Rattle.vram.specs.RuleLaws.{step-given}
+use Rattle.vram.specs.RuleLaws.{step-sized, run-sized, step-given}
 use Rattle.vram.specs.Calls.{cycleCall}
 use Rattle.vram.specs.Kinds.{tagOf, loads}
 
@@ -37,6 +37,13 @@ run-next e c l b = refl
 -- what is given stays as it was
 pub run-given : (l : List Cycle) (b : Board) → givenOf (run l b) ≡ givenOf b
 run-given l b = run-holds (λ x. givenOf x ≡ givenOf b) step (λ c x k. step-given c x ∙ k) l b refl
+
+-- rows fitted stay as they were
+pub step-rows : (c : Cycle) (b : Board) → rowsOf (step c b) ≡ rowsOf b
+step-rows c b = ap (λ (n : ℕ). n / 512) (step-sized c b .memory)
+
+pub run-rows : (l : List Cycle) (b : Board) → rowsOf (run l b) ≡ rowsOf b
+run-rows l b = ap (λ (n : ℕ). n / 512) (run-sized l b .memory)
 
 -- ---- where the state and the lengths are as they should be, a cycle's number is its refusal
 

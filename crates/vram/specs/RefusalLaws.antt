@@ -10,10 +10,8 @@ use borrow.Author.Tests.{eqb-true, leb-true, ltb-true}
 use Rattle.numbers.specs.Refuse.{refuse}
 use Rattle.numbers.specs.RefuseLaws.{refuse-zero}
 use Rattle.vram.specs.declared.Vram.{Vram}
-use Rattle.vram.specs.declared.Cycle.{Cycle}
-use Rattle.vram.specs.declared.Cycle.the-variants.{WordWrite, BlockWrite, LoadColour, LoadMask, ResetRefresh, FullTransfer, SplitTransfer}
 use Rattle.vram.specs.State.{ruled}
-use Rattle.vram.specs.Refusal.{fitted, given, strobesOk, maskingOk, writeRefusal, loadRefusal, fullRefusal, splitRefusal, refusal, readRefusal}
+use Rattle.vram.specs.Refusal.{fitted, given, strobesOk, maskingOk, writeRefusal, loadRefusal, fullRefusal, splitRefusal, readRefusal}
 
 pub both : (p q : Bool) → (p && q) ≡ true → (p ≡ true) × (q ≡ true)
 both true q e = (refl, e)
@@ -108,23 +106,3 @@ pub given-most : (s : Vram) (words serial : ℕ) → given s words serial ≤ 3
 unfolding given
 given-most s words serial =
     refuse-most (ruled s) 1 _ 3 (omega arith) (refuse-most (fitted words) 2 _ 3 (omega arith) (refuse-most (eqb serial 256) 3 0 3 (omega arith) (omega arith)))
-
-write-most : (rows row column masking mask strobes : ℕ) → writeRefusal rows row column masking mask strobes ≤ 10
-unfolding writeRefusal
-write-most rows row column masking mask strobes =
-    refuse-most (ltb row rows) 5 _ 10 (omega arith)
-    (refuse-most (leb column 511) 6 _ 10 (omega arith)
-    (refuse-most (strobesOk strobes) 7 _ 10 (omega arith) (refuse-most (maskingOk masking mask) 8 0 10 (omega arith) (omega arith))))
-
-pub refusal-most : (rows : ℕ) (loaded : Bool) (c : Cycle) → refusal rows loaded c ≤ 10
-unfolding refusal loadRefusal fullRefusal splitRefusal
-refusal-most rows loaded (WordWrite row column word masking mask strobes) = write-most rows row column masking mask strobes
-refusal-most rows loaded (BlockWrite row column columns masking mask strobes) = write-most rows row column masking mask strobes
-refusal-most rows loaded (LoadColour word strobes) = refuse-most (strobesOk strobes) 7 0 10 (omega arith) (omega arith)
-refusal-most rows loaded (LoadMask word strobes) = refuse-most (strobesOk strobes) 7 0 10 (omega arith) (omega arith)
-refusal-most rows loaded ResetRefresh = omega arith
-refusal-most rows loaded (FullTransfer row half tap) =
-    refuse-most (ltb row rows) 5 _ 10 (omega arith) (refuse-most (leb half 1) 9 0 10 (omega arith) (omega arith))
-refusal-most rows loaded (SplitTransfer row half tap) =
-    refuse-most (ltb row rows) 5 _ 10 (omega arith)
-    (refuse-most (leb half 1 && leb tap 127) 9 _ 10 (omega arith) (refuse-most loaded 10 0 10 (omega arith) (omega arith)))
