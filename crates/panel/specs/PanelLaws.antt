@@ -11,7 +11,7 @@ use lib.ListN.{length, getD, set, take, drop, length-append, length-take, length
 use lib.Seq.{take-suc, drop-cons, drop-drop, set-at, take-at, drop-at}
 use Rattle.vram.specs.declared.Vram.{Vram}
 use Rattle.vram.specs.Serial.{half, clocks, words}
-use Rattle.vram.specs.SerialLaws.{words-add, words-length}
+use Rattle.vram.specs.SerialLaws.{words-none, words-add, words-length}
 use Rattle.palette.specs.Table.{Colour, store}
 use Rattle.panel.specs.Panel.{Panel, colourOf, bytesOf, shown, zeros, painted}
 use Rattle.panel.specs.Calls.{over}
@@ -46,6 +46,11 @@ shown-add p j k s r = ap (bytesOf p) (words-add half j k s r) ∙ bytes-append p
 
 pub over-length : (bs out : List ℕ) → length bs ≤ length out → length (over bs out) ≡ length out
 over-length bs out h = length-append bs (drop (length bs) out) ∙ simp length-drop (omega arith)
+
+-- no clocks show nothing
+pub over-none : (p : Panel) (s : Vram) (r out : List ℕ) → out ≡ over (shown p 0 s r) out
+unfolding bytesOf
+over-none p s r out = rw (words-none half s r)
 
 -- more bytes, after the first
 pub over-more : (bs cs out : List ℕ) (n : ℕ) → length bs ≡ n → over (bs ++ cs) out ≡ take n (over bs out) ++ over cs (drop n (over bs out))

@@ -30,6 +30,10 @@ words-add n (suc j) k s r =
     let e : suc j + k ≡ suc (j + k) = omega arith in
     rw e (ap (λ (t : List ℕ). getD r (s .pointer) 0 ∷ t) (words-add n j k (clockIn n s) r))
 
+pub words-none : (n : ℕ) (s : Vram) (r : List ℕ) → wordsIn n 0 s r ≡ []
+unfolding wordsIn
+words-none n s r = refl
+
 pub words-length : (n k : ℕ) (s : Vram) (r : List ℕ) → length (wordsIn n k s r) ≡ k
 unfolding wordsIn
 words-length n zero s r = refl

@@ -54,3 +54,7 @@ unfolding high
 merged-high x y new w e =
     bits-eq 8 (merged x new w / 2 ^ 8) (merged y new w / 2 ^ 8) (shr-lt 8 8 (merged-lt x new w)) (shr-lt 8 8 (merged-lt y new w))
     (λ b h. high-bit x new w b h ∙ ap (λ (n : ℕ). cond (w (8 + b)) (bit new (8 + b)) (bit n b)) e ∙ sym (high-bit y new w b h))
+
+pub high-is : (w : ℕ) → high w ≡ w / 256
+unfolding high
+high-is w = refl

@@ -1,6 +1,4 @@
 -- `panel::stretches::show` meets its contract: one stretch more at each turn. Assumes nothing.
-use Rattle.vram.specs.Serial.{wordsIn}
-use Rattle.panel.specs.Panel.{bytesOf}
 use Rattle.panel.proofs.Stretch.{shown-size}
 use mathlib.Core.Path.{_≡_, refl, sym, ap, _∙_}
 use Prim.Native.Nat.{ℕ, _≤_, _-_, _*_}
@@ -8,7 +6,7 @@ use native.Mathlib.Omega.{arith}
 use lib.ListN.{length}
 use Rattle.panel.specs.Panel.{panelOf, shown}
 use Rattle.panel.specs.Calls.{over}
-use Rattle.panel.specs.PanelLaws.{over-length, shown-length}
+use Rattle.panel.specs.PanelLaws.{over-none}
 use Rattle.panel.proofs.Stretch.{one-turn}
 use Rattle.panel.proofs.stretches.show.Statement.{statement}
 use Rattle.panel.proofs.stretches.show.Tie as tie
@@ -20,8 +18,9 @@ abbrev μ-loop : tie.MeasureT-loop
 μ-loop state serial mask table clocks out₀ done₀ out done = clocks - done
 
 loop-holds : tie.Need-loop-holds Inv-loop μ-loop
-unfolding bytesOf wordsIn
-loop-holds c = (omega arith, refl)
+loop-holds c =
+    let a = c .before .before .before .args in
+    (omega arith, over-none (panelOf (a .mask) (a .table .now)) (a .state) (a .serial .now) (a .out .now))
 
 stretch-requires : tie.Need-stretch-requires Inv-loop μ-loop
 stretch-requires c κs =
