@@ -1,6 +1,6 @@
 -- Numbers and places stay within the table and the list. Assumes nothing.
-use mathlib.Core.Path.{_≡_, refl, sym, ap, _∙_}
-use mathlib.Core.Bool.{Bool, true, false, cond}
+use mathlib.Core.Path.{_≡_, refl}
+use mathlib.Core.Bool.{Bool, true, false}
 use mathlib.Core.List.{List, [], _∷_}
 use mathlib.Core.Logic.{_≢_}
 use Prim.Native.Nat.{ℕ, zero, suc, _+_, _≤_, _<_}
@@ -11,11 +11,10 @@ use borrow.Author.Tests.{eqb-true, eqb-false}
 use Rattle.vram.specs.Board.{Board}
 use Rattle.vram.specs.Step.{givenOf, rowsOf}
 use Rattle.vram.specs.RefusalLaws.{given-most}
-use Rattle.list.specs.declared.Bad.{Bad}
 use Rattle.list.specs.Tags.{lenOf}
-use Rattle.list.specs.Fields.{Field, Reads, Unreadable, tag, whole, fieldOf, sizeOf, fields}
+use Rattle.list.specs.Fields.{Field, Unreadable, tag, whole, fieldOf, sizeOf, fields}
 use Rattle.list.specs.FieldLaws.{whole-length, fields-nil, fields-whole, fields-not}
-use Rattle.list.specs.Meaning.{numberOf, madeBy, bad, verdict, verdictOf}
+use Rattle.list.specs.Meaning.{numberOf, madeBy, verdict, verdictOf}
 use Rattle.list.specs.CallLaws.{verdict-given, verdict-fields}
 use Rattle.list.specs.VerdictLaws.{size-whole, number-range, verdict-nil, verdict-good, verdict-bad}
 

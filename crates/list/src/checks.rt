@@ -1,6 +1,6 @@
 // The check of a list: its bytes are read and `vram` is asked what it refuses, field by field.
 ghost use mathlib.Core.Path.{_≡_};
-ghost use Prim.Native.Nat.{ℕ, _+_, _<_};
+ghost use Prim.Native.Nat.{_+_, _<_};
 ghost use lib.ListN.{length};
 ghost use Rattle.vram.specs.Refusal.{writeRefusal, loadRefusal, fullRefusal, splitRefusal, refusal};
 ghost use Rattle.list.specs.Tags.{byte, word, lenOf, cycleOf};

@@ -1,6 +1,6 @@
 // The bytes of a field, and the tags.
 ghost use mathlib.Core.Path.{_≡_};
-ghost use Prim.Native.Nat.{ℕ, _+_, _<_, _≤_};
+ghost use Prim.Native.Nat.{_+_, _<_, _≤_};
 ghost use lib.ListN.{length};
 ghost use Rattle.list.specs.Tags.{word, known, lenOf};
 ghost use Rattle.list.specs.Fields.{whole};

@@ -1,7 +1,7 @@
 // The run of a list that has been checked: each field is made a cycle, and performed.
 ghost use mathlib.Core.Path.{_≡_};
 ghost use mathlib.Core.Bool.{true};
-ghost use Prim.Native.Nat.{ℕ, _+_, _<_};
+ghost use Prim.Native.Nat.{_+_, _<_};
 ghost use lib.ListN.{length};
 ghost use Rattle.vram.specs.declared.Cycle.the-variants.{WordWrite, BlockWrite, FullTransfer, SplitTransfer, LoadColour, LoadMask};
 ghost use Rattle.vram.specs.Board.{board};

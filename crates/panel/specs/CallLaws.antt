@@ -1,14 +1,14 @@
 -- What holds where a run is not refused, and the ways out of the call. Assumes nothing.
-use mathlib.Core.Path.{_≡_, refl, sym, ap, ap₂, _∙_}
-use mathlib.Core.Bool.{Bool, true, _&&_}
+use mathlib.Core.Path.{_≡_, sym, ap, ap₂, _∙_}
+use mathlib.Core.Bool.{true, _&&_}
 use mathlib.Core.List.{List}
 use mathlib.Core.Logic.{_≢_}
 use Prim.Native.Nat.{ℕ, _*_, _≤_}
 use lib.Dec.{eqb, leb}
 use lib.ListN.{length}
 use borrow.Author.Tests.{eqb-true, eq-eqb, leb-true, le-leb}
-use Rattle.numbers.specs.Refuse.{refuse, leaves}
-use Rattle.numbers.specs.RefuseLaws.{refuse-zero, firstOf-zero, leaves-made, leaves-before}
+use Rattle.numbers.specs.Refuse.{refuse}
+use Rattle.numbers.specs.RefuseLaws.{refuse-zero, firstOf-zero, leaves-before}
 use Rattle.vram.specs.declared.Vram.{Vram}
 use Rattle.vram.specs.declared.Answered.{Answered}
 use Rattle.vram.specs.State.{ruled}
@@ -19,7 +19,7 @@ use Rattle.vram.specs.CallLaws.{clocks-number, clocks-moves}
 use Rattle.palette.specs.declared.Palette.{Palette}
 use Rattle.palette.specs.State.{ruled as paletteRuled}
 use Rattle.panel.specs.Panel.{panelOf, painted}
-use Rattle.panel.specs.Calls.{over, runRefusal, Outcome, outcome, runCall}
+use Rattle.panel.specs.Calls.{over, runRefusal, outcome, runCall}
 
 pub record Accepted (s : Vram) (p : Palette) (serial table k bytes : ℕ) : Type 0 where
   pub rule : ruled s ≡ true

@@ -1,5 +1,5 @@
 -- A run of j + k clocks is a run of j and then a run of k, on state and bytes. Assumes nothing.
-use mathlib.Core.Path.{_≡_, refl, sym, ap, ap₂, _∙_}
+use mathlib.Core.Path.{_≡_, sym, ap, ap₂, _∙_}
 use mathlib.Core.List.{List, _++_}
 use Prim.Native.Nat.{ℕ, _+_, _*_}
 use native.Mathlib.Omega.{arith}
@@ -11,7 +11,7 @@ use Rattle.vram.specs.RuleLaws.{Places, clocks-ruled}
 use Rattle.vram.specs.CallLaws.{clocks-fewer, clocks-rest}
 use Rattle.vram.specs.Calls.{answered}
 use Rattle.palette.specs.declared.Palette.{Palette}
-use Rattle.panel.specs.Panel.{Panel, panelOf, painted}
+use Rattle.panel.specs.Panel.{panelOf, painted}
 use Rattle.panel.specs.PanelLaws.{painted-add, painted-length, over-length, over-more}
 use Rattle.panel.specs.Calls.{over, runRefusal, Outcome, outcome, runCall}
 use Rattle.panel.specs.CallLaws.{run-zero, run-accepted, run-made}

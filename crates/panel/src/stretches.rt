@@ -1,7 +1,7 @@
 // A run in stretches, each to the end of the pointer's half.
 ghost use mathlib.Core.Path.{_≡_};
 ghost use mathlib.Core.List.{_++_};
-ghost use Prim.Native.Nat.{ℕ, _+_, _-_, _*_, _≤_, _<_, min};
+ghost use Prim.Native.Nat.{_+_, _-_, _*_, _≤_, _<_, min};
 ghost use lib.ListN.{length, take, drop};
 ghost use Rattle.vram.specs.Serial.{clocks as movedBy, words};
 ghost use Rattle.vram.specs.Calls.{clocksRefusal};

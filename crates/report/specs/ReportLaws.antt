@@ -1,26 +1,25 @@
 -- Laws of a report: its parts, and that a page has room for it. Assumes nothing.
 use mathlib.Core.Path.{_≡_, refl, sym, ap, ap₂, _∙_, subst}
 use mathlib.Core.Bool.{Bool, true, false, cond}
-use mathlib.Core.List.{List, [], _∷_, _++_, append-nil}
+use mathlib.Core.List.{List, [], _++_, append-nil}
 use mathlib.Core.Logic.{_≢_}
-use Prim.Native.Nat.{ℕ, zero, suc, _+_, _*_, _≤_, _<_}
+use Prim.Native.Nat.{ℕ, _+_, _*_, _≤_, _<_}
 use native.Mathlib.Omega.{arith}
 use lib.Dec.{eqb, leb}
 use lib.ListN.{length, take, drop, length-append, length-take, length-replicate}
 use lib.Seq.{take-all, take-at}
 use borrow.Author.Tests.{eqb-true, eqb-false, eq-eqb, ne-eqb, le-leb, lt-leb, leb-true}
 use Rattle.numbers.specs.Refuse.{refuse, leaves}
-use Rattle.numbers.specs.RefuseLaws.{refuse-zero, leaves-made, leaves-before}
-use Rattle.vram.specs.Step.{run}
+use Rattle.numbers.specs.RefuseLaws.{refuse-zero, leaves-before}
 use Rattle.vram.specs.RuleLaws.{run-sized}
 use Rattle.list.specs.declared.Ran.{Ran}
 use Rattle.list.specs.Meaning.{Outcome, outcome, cyclesOf, verdictOf, runCall}
 use Rattle.list.specs.CallLaws.{call-given, call-runs, call-refuses}
 use Rattle.list.specs.RangeLaws.{call-most}
 use Rattle.report.specs.declared.Reported.{Reported}
-use Rattle.report.specs.Text.{decimal, answerLine, wordLines, tooLong}
-use Rattle.report.specs.TextLaws.{Put, put-then, put-size, put-over, decimal-most, lines-most}
-use Rattle.report.specs.Report.{start, linesOf, textOf, Told, told, reportCall}
+use Rattle.report.specs.Text.{answerLine, wordLines, tooLong}
+use Rattle.report.specs.TextLaws.{Put, put-size, put-over, decimal-most, lines-most}
+use Rattle.report.specs.Report.{start, textOf, Told, told, reportCall}
 
 -- ---- a list that is not too long
 

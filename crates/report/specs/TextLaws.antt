@@ -9,8 +9,7 @@ use native.Mathlib.Numerals.{add-one}
 use lib.Dec.{eqb, ltb}
 use lib.ListN.{length, getD, set, take, drop, length-append, length-take}
 use lib.Seq.{sets, sets-eq, length-sets, take-suc}
-use borrow.Author.Tests.{lt-ltb, le-ltb}
-use Rattle.report.specs.Text.{digit, decimal, hex, answerLine, wordLine, wordLines}
+use Rattle.report.specs.Text.{digit, decimal, hex, wordLine, wordLines}
 
 -- ---- bytes written from a place of a buffer on, and the place after them
 

@@ -1,8 +1,7 @@
 // The text that `play` prints, as a function from a list's bytes: document 01, "The program `play`". The list runs on 64 rows of zeros and
 // a fresh state.
 ghost use mathlib.Core.Path.{_≡_};
-ghost use mathlib.Core.List.{List};
-ghost use Prim.Native.Nat.{ℕ, _≤_};
+ghost use Prim.Native.Nat.{_≤_};
 ghost use lib.ListN.{length};
 ghost use Rattle.report.specs.Report.{textOf, told, reportCall};
 ghost use Rattle.report.specs.TextLaws.{Put};

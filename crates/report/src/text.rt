@@ -1,7 +1,7 @@
 // Text, byte after byte into a buffer. Each function answers the place after what it wrote.
 ghost use mathlib.Core.Path.{_≡_};
 ghost use mathlib.Core.List.{[], _∷_};
-ghost use Prim.Native.Nat.{ℕ, _+_, _*_, _<_, _≤_};
+ghost use Prim.Native.Nat.{_+_, _*_, _<_, _≤_};
 ghost use lib.ListN.{length};
 ghost use Rattle.report.specs.Text.{digit, decimal, hex, answerLine, wordLine, wordLines};
 ghost use Rattle.report.specs.TextLaws.{Put, lineOf};

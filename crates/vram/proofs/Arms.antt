@@ -1,5 +1,5 @@
 -- From what the code of a kind of cycle ensures to what the whole call owes. Assumes nothing.
-use mathlib.Core.Path.{_≡_, refl, sym, ap, ap₂, _∙_}
+use mathlib.Core.Path.{_≡_, refl, sym, ap, _∙_}
 use mathlib.Core.Bool.{Bool, true, false, cond}
 use mathlib.Core.List.{List}
 use mathlib.Core.Logic.{_≢_}
@@ -9,11 +9,10 @@ use Rattle.numbers.specs.Refuse.{leaves}
 use Rattle.numbers.specs.RefuseLaws.{firstOf-later, firstOf-first, refused-is, done-is, leaves-before}
 use Rattle.vram.specs.declared.Vram.{Vram}
 use Rattle.vram.specs.declared.Cycle.{Cycle}
-use Rattle.vram.specs.declared.Answered.{Answered}
 use Rattle.vram.specs.Board.{Board, board, effect}
 use Rattle.vram.specs.Refusal.{refusal}
 use Rattle.vram.specs.Step.{givenOf, rowsOf, number, stepBy}
-use Rattle.vram.specs.Calls.{answered, Outcome, outcome, cycleCall, Transferred}
+use Rattle.vram.specs.Calls.{answered, outcome, cycleCall, Transferred}
 
 -- ---- a transfer
 

@@ -1,12 +1,12 @@
 -- The ways out of a serial clock. Assumes nothing.
-use mathlib.Core.Path.{_≡_, sym, ap, _∙_}
+use mathlib.Core.Path.{_≡_}
 use mathlib.Core.List.{List}
 use mathlib.Core.Logic.{_≢_}
 use Prim.Native.Nat.{ℕ}
 use lib.Dec.{eqb}
 use lib.ListN.{length, getD}
 use borrow.Author.Tests.{eqb-true}
-use Rattle.numbers.specs.RefuseLaws.{refuse-zero, leaves-before, leaves-made}
+use Rattle.numbers.specs.RefuseLaws.{refuse-zero, leaves-before}
 use Rattle.vram.specs.declared.Vram.{Vram}
 use Rattle.vram.specs.declared.Clocked.{Clocked}
 use Rattle.vram.specs.declared.Word.{Word}

@@ -1,17 +1,17 @@
 -- Laws of the calls by which a run moves. Assumes nothing.
-use mathlib.Core.Path.{_≡_, refl, sym, ap, _∙_}
+use mathlib.Core.Path.{_≡_, refl}
 use mathlib.Core.Bool.{Bool, true, false, _||_}
 use Prim.Native.Nat.{ℕ, _+_, _≤_}
 use native.Mathlib.Omega.{arith}
 use lib.Dec.{eqb, leb}
-use borrow.Author.Tests.{leb-true, le-leb, eq-eqb, eqb-true, eqb-false}
+use borrow.Author.Tests.{leb-true, le-leb, eq-eqb, eqb-true}
 use Rattle.numbers.specs.RefuseLaws.{refuse-zero, leaves-made}
 use Rattle.vram.specs.declared.Vram.{Vram}
 use Rattle.vram.specs.State.{ruled}
 use Rattle.vram.specs.Serial.{half, clocks}
 use Rattle.vram.specs.SerialLaws.{half-partition}
 use Rattle.vram.specs.RuleLaws.{Places, clocks-loaded, clocks-ruled}
-use Rattle.vram.specs.Calls.{answered, clocksRefusal, clocksCall}
+use Rattle.vram.specs.Calls.{clocksRefusal, clocksCall}
 
 -- the number that `clocks` gives back
 pub clocks-number : (s : Vram) (k : ℕ) → clocksCall s k .number ≡ clocksRefusal s k

@@ -1,26 +1,21 @@
 -- What a cycle changes and what it leaves: the laws by which other crates know `step`. Assumes nothing.
-use mathlib.Core.Path.{_≡_, refl, sym, ap, _∙_}
-use mathlib.Core.Bool.{Bool, true, false, _&&_, cond}
+use mathlib.Core.Path.{_≡_, ap, _∙_}
+use mathlib.Core.Bool.{Bool, false, _&&_, cond}
 use mathlib.Core.List.{List}
-use mathlib.Core.Logic.{_≢_}
-use Prim.Native.Nat.{ℕ, _+_, _-_, _*_, _/_, _≤_, _<_}
+use Prim.Native.Nat.{ℕ, _+_, _-_, _*_, _/_, _<_}
 use native.Mathlib.Omega.{arith}
-use lib.Dec.{eqb}
 use lib.ListN.{length, getD}
-use borrow.Author.Tests.{ne-eqb}
 use Rattle.words.specs.Bit.{bit}
 use Rattle.words.specs.Word.{lets}
-use Rattle.vram.specs.declared.Vram.{Vram}
 use Rattle.vram.specs.declared.Cycle.{Cycle}
-use Rattle.vram.specs.declared.Cycle.the-variants.{WordWrite, BlockWrite, LoadColour, LoadMask, ResetRefresh, FullTransfer, SplitTransfer}
+use Rattle.vram.specs.declared.Cycle.the-variants.{WordWrite, BlockWrite}
 use Rattle.vram.specs.Board.{Board, allowed, effect}
 use Rattle.vram.specs.Refusal.{refusal}
 use Rattle.vram.specs.RefusalLaws.{Placed, write-zero, word-within, block-within}
 use Rattle.vram.specs.MemoryLaws.{among, among-in}
 use Rattle.vram.specs.Step.{rowsOf, number, step}
-use Rattle.vram.specs.StepLaws.{number-zero, step-acts, step-holds}
-use Rattle.vram.specs.Kinds.{tagOf, loads}
-use Rattle.vram.specs.Writes.{Writes, writes, base, written, effect-writes, written-bit, written-other}
+use Rattle.vram.specs.StepLaws.{number-zero, step-acts}
+use Rattle.vram.specs.Writes.{writes, written, effect-writes, written-bit, written-other}
 
 -- ---- the memory: a cycle that is not refused leaves what `writes` says
 

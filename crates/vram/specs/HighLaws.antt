@@ -1,11 +1,10 @@
 -- The high byte of a word, which holds the status mark, after a cycle depends only on high bytes. Assumes nothing.
-use mathlib.Core.Path.{_≡_, refl, sym, ap, ap₂, _∙_, subst}
+use mathlib.Core.Path.{_≡_, refl, sym, ap₂, _∙_, subst}
 use mathlib.Core.Bool.{Bool, true, false, cond}
 use mathlib.Core.List.{List, [], _∷_, map}
 use Prim.Native.Nat.{ℕ, zero, suc, _+_}
 use lib.Dec.{eqb}
 use lib.ListN.{length, getD, set}
-use Rattle.numbers.specs.Refuse.{leaves}
 use Rattle.words.specs.Word.{merged, high}
 use Rattle.words.specs.WordLaws.{merged-high}
 use Rattle.vram.specs.declared.Vram.{Vram}
@@ -15,7 +14,7 @@ use Rattle.vram.specs.ListLaws.{map-set, map-length, map-at}
 use Rattle.vram.specs.Memory.{put, puts, copied}
 use Rattle.vram.specs.MemoryLaws.{copied-map}
 use Rattle.vram.specs.Board.{Board, board, effect}
-use Rattle.vram.specs.Step.{givenOf, number, stepBy, runBy, step, run}
+use Rattle.vram.specs.Step.{number, stepBy, runBy, step, run}
 
 -- ---- words that agree in every high byte: equal lengths, and equal high bytes at each place (`map-length`, `map-at`)
 

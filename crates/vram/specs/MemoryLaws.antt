@@ -1,5 +1,5 @@
 -- Laws of writes and copies on a slice of words. Assumes nothing.
-use mathlib.Core.Path.{_≡_, refl, sym, ap, _∙_}
+use mathlib.Core.Path.{_≡_, refl, ap, _∙_}
 use mathlib.Core.Bool.{Bool, true, false, _&&_, cond}
 use mathlib.Core.List.{List, map, map-append}
 use mathlib.Core.Logic.{_≢_, _⊎_, inl, inr, ⊎-elim}
@@ -7,11 +7,10 @@ use Prim.Native.Nat.{ℕ, zero, suc, _+_, _-_, _≤_, _<_}
 use native.Mathlib.Omega.{arith}
 use lib.Dec.{eqb, leb, ltb}
 use lib.ListN.{length, getD, set, take, drop, length-set, length-drop}
-use lib.Seq.{paste, length-paste, getD-set-same, getD-set-other, drop-set-lt, drop-set-add, take-set-le}
+use lib.Seq.{length-paste, getD-set-same, getD-set-other, drop-set-lt, drop-set-add, take-set-le}
 use borrow.Author.Tests.{eqb-true, eqb-false, lt-ltb, le-ltb, le-leb, ltb-true, ltb-false, leb-true}
-use Rattle.words.specs.Bit.{bit, ofBits}
-use Rattle.words.specs.Word.{merged, lets}
-use Rattle.words.specs.WordLaws.{merged-cong, mask-bit}
+use Rattle.words.specs.Word.{merged}
+use Rattle.words.specs.WordLaws.{merged-cong}
 use Rattle.vram.specs.Memory.{put, puts, copied}
 use Rattle.vram.specs.ListLaws.{map-take, map-drop}
 

@@ -1,17 +1,15 @@
 -- What holds where nothing is refused. Assumes nothing.
-use mathlib.Core.Path.{_≡_, refl, sym, ap, _∙_}
-use mathlib.Core.Bool.{Bool, true, false, _&&_, cond, true≢false}
-use mathlib.Core.List.{List}
+use mathlib.Core.Path.{_≡_, refl, sym}
+use mathlib.Core.Bool.{Bool, true, false, _&&_, true≢false}
 use Prim.Native.Nat.{ℕ, _+_, _*_, _/_, _%_, _≤_, _<_}
 use native.Mathlib.Omega.{arith}
 use lib.Dec.{eqb, leb, ltb}
-use lib.ListN.{length}
 use borrow.Author.Tests.{eqb-true, leb-true, ltb-true}
 use Rattle.numbers.specs.Refuse.{refuse}
 use Rattle.numbers.specs.RefuseLaws.{refuse-zero}
 use Rattle.vram.specs.declared.Vram.{Vram}
 use Rattle.vram.specs.State.{ruled}
-use Rattle.vram.specs.Refusal.{fitted, given, strobesOk, maskingOk, writeRefusal, loadRefusal, fullRefusal, splitRefusal, readRefusal}
+use Rattle.vram.specs.Refusal.{fitted, given, writeRefusal, fullRefusal, splitRefusal, readRefusal}
 
 pub both : (p q : Bool) → (p && q) ≡ true → (p ≡ true) × (q ≡ true)
 both true q e = (refl, e)

@@ -1,8 +1,8 @@
 -- A cycle keeps the lengths and the rows it does not name; a cycle and a clock keep the state's rule. Assumes nothing.
 use mathlib.Core.Path.{_≡_, refl, sym, ap, _∙_}
-use mathlib.Core.Bool.{Bool, true, false, not, _&&_, _||_, cond, true≢false}
-use mathlib.Core.List.{List, [], _∷_}
-use mathlib.Core.Logic.{_≢_, ⊎-elim}
+use mathlib.Core.Bool.{Bool, true, false, cond}
+use mathlib.Core.List.{List}
+use mathlib.Core.Logic.{⊎-elim}
 use Prim.Native.Nat.{ℕ, zero, suc, _+_, _-_, _*_, _/_, _%_, _≤_, _<_}
 use native.Mathlib.Omega.{arith}
 use native.Mathlib.Nat.{mod-eq-of-lt}
@@ -14,16 +14,16 @@ use Rattle.vram.specs.declared.Waiting.{Waiting}
 use Rattle.vram.specs.declared.Waiting.the-variants.{None, Tap}
 use Rattle.vram.specs.declared.Cycle.{Cycle}
 use Rattle.vram.specs.declared.Cycle.the-variants.{WordWrite, BlockWrite, LoadColour, LoadMask, ResetRefresh, FullTransfer, SplitTransfer}
-use Rattle.vram.specs.State.{other, tapOk, waitingOk, ruled}
+use Rattle.vram.specs.State.{other, waitingOk, ruled}
 use Rattle.vram.specs.Memory.{puts}
 use Rattle.vram.specs.MemoryLaws.{copied-length}
 use Rattle.vram.specs.Board.{Board, effect}
-use Rattle.vram.specs.Refusal.{given, refusal}
-use Rattle.vram.specs.RefusalLaws.{Given, given-zero, given-rule, full-zero, split-zero, transfer-within}
-use Rattle.vram.specs.Step.{givenOf, rowsOf, number, runBy, step, run}
+use Rattle.vram.specs.Refusal.{refusal}
+use Rattle.vram.specs.RefusalLaws.{given-zero, given-rule, full-zero, split-zero, transfer-within}
+use Rattle.vram.specs.Step.{givenOf, rowsOf, number, step, run}
 use Rattle.vram.specs.StepLaws.{number-zero, step-holds, run-holds}
 use Rattle.vram.specs.Kinds.{names}
-use Rattle.vram.specs.Writes.{writes, base, written, effect-writes, writes-within, writes-elsewhere, written-length, rowOf, written-row}
+use Rattle.vram.specs.Writes.{writes, written, effect-writes, writes-within, writes-elsewhere, written-length, rowOf, written-row}
 use Rattle.vram.specs.Serial.{half, at, after, moved, clockIn, clocksIn}
 use Rattle.vram.specs.SerialLaws.{Partition}
 

@@ -2,9 +2,7 @@
 -- sheet writes registers from bit 0 on; below they are numbers. The four words were zeros, so a bit that is not written stays 0.
 -- Assumes nothing.
 use mathlib.Core.Path.{_≡_, refl}
-use mathlib.Core.Bool.{Bool, true, false}
 use mathlib.Core.List.{List, [], _∷_}
-use Prim.Native.Nat.{ℕ, zero, suc}
 use lib.ListN.{take, replicate}
 use Rattle.words.specs.Bit.{bit, ofBits}
 use Rattle.words.specs.Word.{merged, covers, lets}

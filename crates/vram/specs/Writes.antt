@@ -1,12 +1,12 @@
 -- What a cycle writes to the memory, as one record: laws about the memory then need no cases on the cycle. Assumes nothing.
-use mathlib.Core.Path.{_≡_, refl, sym, ap, _∙_}
+use mathlib.Core.Path.{_≡_, refl, ap, _∙_}
 use mathlib.Core.Bool.{Bool, true, false, _&&_, cond}
 use mathlib.Core.List.{List}
 use mathlib.Core.Logic.{_≢_, _⊎_, inl, inr}
-use Prim.Native.Nat.{ℕ, zero, suc, _+_, _-_, _*_, _/_, _≤_, _<_}
+use Prim.Native.Nat.{ℕ, _+_, _-_, _*_, _/_, _≤_, _<_}
 use native.Mathlib.Omega.{arith}
 use native.Mathlib.Nat.{add-zero}
-use lib.Dec.{eqb, leb, ltb}
+use lib.Dec.{ltb}
 use lib.ListN.{length, getD, take, drop}
 use borrow.Author.Tests.{eqb-false, ltb-true, ltb-false}
 use Rattle.words.specs.Bit.{bit}
@@ -15,7 +15,7 @@ use Rattle.words.specs.WordLaws.{merged-bit}
 use Rattle.vram.specs.declared.Vram.{Vram}
 use Rattle.vram.specs.declared.Cycle.{Cycle}
 use Rattle.vram.specs.declared.Cycle.the-variants.{WordWrite, BlockWrite, LoadColour, LoadMask, ResetRefresh, FullTransfer, SplitTransfer}
-use Rattle.vram.specs.Memory.{put, puts}
+use Rattle.vram.specs.Memory.{puts}
 use Rattle.vram.specs.MemoryLaws.{puts-length, among, puts-at, puts-part}
 use Rattle.vram.specs.Board.{Board, allowed, effect}
 use Rattle.vram.specs.Refusal.{refusal}

@@ -1,7 +1,7 @@
 // The seven cycles. `Vram::cycle` refuses or performs; each kind judges its own field, then acts.
 ghost use mathlib.Core.Path.{_≡_};
-ghost use mathlib.Core.Bool.{Bool, true, false, cond, _&&_};
-ghost use Prim.Native.Nat.{ℕ, _+_, _*_, _/_, _≤_};
+ghost use mathlib.Core.Bool.{true, false, _&&_};
+ghost use Prim.Native.Nat.{_+_, _*_, _/_, _≤_};
 ghost use lib.ListN.{length};
 ghost use Rattle.numbers.specs.Refuse.{leaves};
 ghost use Rattle.words.specs.Bit.{ofBits};

@@ -1,7 +1,6 @@
 // What is refused, and with which number: the lowest wins, so the last test is worked out first. The refusal of each kind of cycle is
 // public, so that a list is judged from its bytes and the rule still stands here alone.
 ghost use mathlib.Core.Path.{_≡_};
-ghost use Prim.Native.Nat.{ℕ};
 ghost use Rattle.vram.specs.Refusal.{fitted, placed, writeRefusal, loadRefusal, fullRefusal, splitRefusal, refusal, given};
 use crate::Cycle;
 use crate::Vram;

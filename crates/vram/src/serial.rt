@@ -1,7 +1,6 @@
 // The serial port: the clock, and how a run of clocks moves. The tap is matched and the pointer advanced here and nowhere else.
 ghost use mathlib.Core.Path.{_≡_};
-ghost use mathlib.Core.Bool.{_||_};
-ghost use Prim.Native.Nat.{ℕ, _<_};
+ghost use Prim.Native.Nat.{_<_};
 ghost use Rattle.vram.specs.Serial.{half, after, through, clocks};
 ghost use Rattle.vram.specs.Calls.{clockCall, clocksCall};
 use crate::Answered;

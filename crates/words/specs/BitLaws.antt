@@ -1,14 +1,14 @@
 -- The laws of `bit`: of and, or, xor, shifts, a remainder, a complement; a number is given by its bits. Assumes nothing.
 use mathlib.Core.Path.{_≡_, refl, sym, ap, ap₂, _∙_, subst}
-use mathlib.Core.Bool.{Bool, true, false, not, _&&_, _||_, cond}
-use Prim.Native.Nat.{ℕ, zero, suc, _+_, _-_, _*_, _/_, _%_, _^_, _≤_, _<_, zero-le}
-use native.Mathlib.Nat.{mod-lt, div-add-mod', mod-eq-of-lt, add-comm, pow-suc, div-lt-iff-lt-mul, div-div-eq-div-mul, mul-assoc, add-zero, zero-add, lt-of-lt-of-le}
+use mathlib.Core.Bool.{Bool, true, false, not, _&&_, _||_}
+use Prim.Native.Nat.{ℕ, zero, suc, _+_, _-_, _*_, _/_, _%_, _^_, _≤_, _<_}
+use native.Mathlib.Nat.{mod-lt, div-add-mod', mod-eq-of-lt, pow-suc, mul-assoc}
 use native.Mathlib.Omega.{arith}
 use native.Mathlib.Numerals.{add-one}
-use lib.Dec.{eqb, leb, ltb}
-use lib.Bits.{bitAnd, bitOr, bitXor, and-shr, or-shr, xor-shr, and-mod, or-mod, xor-mod, and-mask, xor-add-and, and-lt, or-lt, xor-lt, shifted-even}
+use lib.Dec.{eqb, leb}
+use lib.Bits.{bitAnd, bitOr, bitXor, and-shr, or-shr, xor-shr, and-mod, or-mod, xor-mod, and-mask, xor-add-and, shifted-even}
 use lib.Arith.{lt-one, digits-mod, digits-div}
-use lib.Pow.{pow-pos, pow-add, split, high, low, shr-shr, shr-lt, shl-shr, field, mod-mod-pow, ones-split, ones-lt, le-ones}
+use lib.Pow.{pow-add, high, low, shr-shr, shr-lt, shl-shr, field, mod-mod-pow, ones-split, ones-lt}
 use borrow.Author.Tests.{leb-true, leb-false}
 use Rattle.words.specs.Bit.{bit, digit, ofBits}
 

@@ -3,8 +3,6 @@ use mathlib.Core.Path.{ap, _∙_}
 use Rattle.numbers.specs.RefuseLaws.{firstOf-is}
 use Rattle.vram.specs.declared.Answered.{Answered}
 use mathlib.Core.Path.{ap}
-use Prim.Native.Nat.{ℕ}
-use Rattle.vram.specs.Calls.{clocksCall, clocksRefusal}
 use mathlib.Core.Path.{_∙_}
 use Rattle.panel.specs.Calls.{runRefusal}
 use Rattle.vram.specs.CallLaws.{clocks-number}

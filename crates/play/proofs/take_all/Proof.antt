@@ -1,9 +1,8 @@
 -- `play::take_all` meets its contract: each read that is not the last takes some of the room. Assumes nothing.
-use mathlib.Core.Path.{_≡_, _∙_}
+use mathlib.Core.Path.{_≡_}
 use Prim.Native.Nat.{_≤_, _-_}
-use native.Mathlib.Omega.{arith}
 use borrow.Author.Needs.{needs}
-use lib.ListN.{length, length-take, length-drop}
+use lib.ListN.{length}
 use Rattle.play.proofs.take_all.Statement.{statement}
 use Rattle.play.proofs.take_all.Tie as tie
 

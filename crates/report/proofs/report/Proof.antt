@@ -1,5 +1,4 @@
 -- `report::report` meets its contract. Assumes nothing.
-use Prim.Native.Nat.{ℕ, _≤_}
 use native.Mathlib.Omega.{arith}
 use lib.ListN.{length}
 use Rattle.report.specs.ReportLaws.{bytes-most, bytes-taken, room-is, report-refused, report-done}

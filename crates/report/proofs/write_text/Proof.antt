@@ -1,9 +1,9 @@
 -- `report::write_text` meets its contract. Assumes nothing.
-use mathlib.Core.Path.{_≡_, subst, ap, _∙_}
+use mathlib.Core.Path.{subst, ap, _∙_}
 use mathlib.Core.List.{List}
 use Prim.Native.Nat.{ℕ}
 use native.Mathlib.Omega.{arith}
-use lib.ListN.{length, replicate}
+use lib.ListN.{replicate}
 use Rattle.vram.specs.declared.Vram.{Vram}
 use Rattle.vram.specs.Board.{board}
 use Rattle.list.specs.Meaning.{runCall}

@@ -1,7 +1,6 @@
 -- `panel::pixels::show_word` meets its contract. Assumes nothing.
 use Rattle.panel.specs.Panel.{panelOf, part}
 use Rattle.panel.proofs.Stores.{three-stores}
-use mathlib.Core.Path.{ap, _∙_}
 use native.Mathlib.Omega.{arith}
 use lib.ListN.{length-set}
 use borrow.Author.Needs.{needs}

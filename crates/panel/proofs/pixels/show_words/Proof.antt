@@ -6,13 +6,13 @@ use Rattle.panel.proofs.Stretch.{words-size}
 use mathlib.Core.Path.{_≡_, refl, ap, _∙_}
 use mathlib.Core.List.{List}
 use Rattle.palette.specs.Table.{store}
-use Prim.Native.Nat.{ℕ, _≤_, _-_, _*_}
+use Prim.Native.Nat.{ℕ, _≤_, _-_}
 use native.Mathlib.Omega.{arith}
 use lib.ListN.{length, take}
 use lib.Seq.{take-all}
 use Rattle.panel.specs.Panel.{panelOf, bytesOf}
 use Rattle.panel.specs.Calls.{over}
-use Rattle.panel.specs.PanelLaws.{over-word, over-length, bytes-length}
+use Rattle.panel.specs.PanelLaws.{over-word}
 use Rattle.panel.proofs.pixels.show_words.Statement.{statement}
 use Rattle.panel.proofs.pixels.show_words.Tie as tie
 

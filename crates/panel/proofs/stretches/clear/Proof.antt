@@ -1,11 +1,9 @@
 -- `panel::stretches::clear` meets its contract: one zero more at each turn. Assumes nothing.
 use borrow.Author.Needs.{needs}
 use Prim.Native.Nat.{ℕ, _≤_, _-_}
-use mathlib.Core.List.{List}
 use Rattle.panel.specs.PanelLaws.{over-zero, zeros-size}
-use mathlib.Core.Path.{_≡_, refl, sym, ap, _∙_}
+use mathlib.Core.Path.{_≡_, refl, ap, _∙_}
 use native.Mathlib.Omega.{arith}
-use lib.ListN.{length}
 use Rattle.panel.specs.Panel.{zeros}
 use Rattle.panel.specs.Calls.{over}
 use Rattle.panel.proofs.stretches.clear.Statement.{statement}

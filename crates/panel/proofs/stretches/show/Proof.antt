@@ -1,9 +1,8 @@
 -- `panel::stretches::show` meets its contract: one stretch more at each turn. Assumes nothing.
 use Rattle.panel.proofs.Stretch.{shown-size}
-use mathlib.Core.Path.{_≡_, refl, sym, ap, _∙_}
-use Prim.Native.Nat.{ℕ, _≤_, _-_, _*_}
+use mathlib.Core.Path.{_≡_, ap, _∙_}
+use Prim.Native.Nat.{ℕ, _≤_, _-_}
 use native.Mathlib.Omega.{arith}
-use lib.ListN.{length}
 use Rattle.panel.specs.Panel.{panelOf, shown}
 use Rattle.panel.specs.Calls.{over}
 use Rattle.panel.specs.PanelLaws.{over-none}

@@ -1,12 +1,11 @@
 -- `report::text::put_bytes` meets its contract: one byte more at each turn. Assumes nothing.
 use mathlib.Core.Path.{_≡_, refl, ap, _∙_}
-use mathlib.Core.List.{List}
-use Prim.Native.Nat.{ℕ, _≤_, _-_, _+_}
+use Prim.Native.Nat.{_≤_, _-_}
 use native.Mathlib.Omega.{arith}
 use borrow.Author.Needs.{needs}
 use lib.ListN.{length, take}
 use lib.Seq.{sets, length-sets, take-all}
-use Rattle.report.specs.TextLaws.{Put, put-next}
+use Rattle.report.specs.TextLaws.{put-next}
 use Rattle.report.proofs.text.put_bytes.Statement.{statement}
 use Rattle.report.proofs.text.put_bytes.Tie as tie
 

@@ -1,8 +1,8 @@
 -- `report::text::put_line` meets its contract: six texts, one after the other, with room for each. Assumes nothing.
 use native.Mathlib.Omega.{arith}
-use Prim.Native.Nat.{ℕ, _/_, _%_}
+use Prim.Native.Nat.{_/_, _%_}
 use Rattle.report.specs.Text.{wordLine}
-use Rattle.report.specs.TextLaws.{Put, put-then, put-room, decimal-most, hex-most}
+use Rattle.report.specs.TextLaws.{put-then, put-room, decimal-most, hex-most}
 use borrow.Author.Needs.{needs}
 use Rattle.report.proofs.text.put_line.Statement.{statement}
 use Rattle.report.proofs.text.put_line.Tie as tie

@@ -1,14 +1,14 @@
 -- `report::text::put_words` meets its contract: one word more at each turn. Assumes nothing.
 use mathlib.Core.Path.{subst}
-use mathlib.Core.Path.{_≡_, refl, sym, ap, _∙_}
+use mathlib.Core.Path.{_≡_, refl}
 use mathlib.Core.List.{List}
-use Prim.Native.Nat.{ℕ, _≤_, _-_, _+_, _*_}
+use Prim.Native.Nat.{ℕ, _≤_, _-_}
 use native.Mathlib.Omega.{arith}
 use borrow.Author.Needs.{needs}
-use lib.ListN.{length, take, getD}
+use lib.ListN.{length, take}
 use lib.Seq.{take-all}
 use Rattle.report.specs.Text.{wordLines}
-use Rattle.report.specs.TextLaws.{Put, put-nothing, put-then, put-size, lines-more, lines-most, put-lines}
+use Rattle.report.specs.TextLaws.{Put, put-nothing, put-size, lines-most, put-lines}
 use Rattle.report.proofs.text.put_words.Statement.{statement}
 use Rattle.report.proofs.text.put_words.Tie as tie
 

@@ -1,6 +1,5 @@
 -- `vram::Vram::cycle` meets its contract: what each kind ensures is what the whole call owes, by `did`. Assumes nothing.
 use mathlib.Core.Path.{refl, sym, _∙_}
-use native.Mathlib.Omega.{arith}
 use lib.ListN.{length}
 use Rattle.vram.specs.Board.{effect}
 use Rattle.vram.specs.Refusal.{loadRefusal, fullRefusal, splitRefusal, refusal}

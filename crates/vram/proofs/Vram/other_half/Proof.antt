@@ -1,6 +1,5 @@
 -- `vram::Vram::other_half` meets its contract. Assumes nothing.
 use borrow.Author.Needs.{needs}
-use native.Mathlib.Omega.{arith}
 use borrow.Author.Tests.{lt-ltb, le-ltb}
 use Rattle.vram.proofs.Vram.other_half.Statement.{statement}
 use Rattle.vram.proofs.Vram.other_half.Tie as tie

@@ -1,12 +1,12 @@
 -- `vram::Vram::split_transfer` meets its contract. Assumes nothing.
 use mathlib.Core.Path.{ap₂}
 use Rattle.vram.specs.RefusalLaws.{split-zero, transfer-within}
-use mathlib.Core.Path.{_≡_, sym, ap, _∙_}
-use Prim.Native.Nat.{ℕ, _+_, _*_}
+use mathlib.Core.Path.{sym, ap, _∙_}
+use Prim.Native.Nat.{ℕ, _+_}
 use native.Mathlib.Omega.{arith}
 use lib.ListN.{length}
 use Rattle.vram.specs.declared.Waiting.the-variants.{Tap}
-use Rattle.vram.specs.State.{other, withSerial}
+use Rattle.vram.specs.State.{withSerial}
 use Rattle.vram.specs.Memory.{copied}
 use Rattle.vram.proofs.Arms.{transfer-refused, transfer-done}
 use borrow.Author.Needs.{needs}

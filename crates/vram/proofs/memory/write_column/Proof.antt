@@ -1,7 +1,7 @@
 -- `vram::memory::write_column` meets its contract. Assumes nothing.
 use mathlib.Core.Path.{ap, _∙_}
 use mathlib.Core.Bool.{_&&_}
-use Prim.Native.Nat.{ℕ, _%_}
+use Prim.Native.Nat.{ℕ}
 use native.Mathlib.Nat.{mod-eq-of-lt}
 use Rattle.words.specs.Bit.{bit, ofBits}
 use Rattle.words.specs.Word.{lets}
