@@ -23,9 +23,19 @@ pub clocks-moves : (s : Vram) (k : ℕ) → clocksRefusal s k ≡ 0 → clocksCa
 unfolding clocksCall
 clocks-moves s k z = leaves-made (clocksRefusal s k) s (clocks k s) z
 
-pub clocks-most : (s : Vram) (k : ℕ) → clocksRefusal s k ≡ 0 → k ≤ 512
+-- what a run that is not refused has
+record Accepted (s : Vram) (k : ℕ) : Type 0 where
+  rule : ruled s ≡ true
+  made : (eqb k 0 || s .loaded) ≡ true
+  most : k ≤ 512
+
+clocks-zero : (s : Vram) (k : ℕ) → clocksRefusal s k ≡ 0 → Accepted s k
 unfolding clocksRefusal
-clocks-most s k z = leb-true k 512 (refuse-zero (leb k 512) 13 0 (refuse-zero (eqb k 0 || s .loaded) 9 _ (refuse-zero (ruled s) 0 _ z .1) .1) .0)
+clocks-zero s k z =
+    let p = refuse-zero (ruled s) 0 _ z in
+    let q = refuse-zero (eqb k 0 || s .loaded) 9 _ (p .1) in
+    let r = refuse-zero (leb k 512) 13 0 (q .1) in
+    record { rule = p .0; made = q .0; most = leb-true k 512 (r .0) }
 
 -- what exempts a run from 10 exempts one that is empty where it is
 exempt : (made : Bool) (j k : ℕ) → (k ≡ 0 → j ≡ 0) → (eqb k 0 || made) ≡ true → (eqb j 0 || made) ≡ true
@@ -43,18 +53,12 @@ exempt made j k f h = go (eqb k 0) refl h
 pub clocks-fewer : (s : Vram) (j k : ℕ) → j ≤ k → clocksRefusal s k ≡ 0 → clocksRefusal s j ≡ 0
 unfolding clocksRefusal
 clocks-fewer s j k h z =
-    let p = refuse-zero (ruled s) 0 _ z in
-    let q = refuse-zero (eqb k 0 || s .loaded) 9 _ (p .1) in
-    let r = refuse-zero (leb k 512) 13 0 (q .1) in
-    let m : k ≤ 512 = leb-true k 512 (r .0) in
-    rw (p .0, exempt (s .loaded) j k (λ z. omega arith) (q .0), le-leb j 512 (omega arith))
+    let a = clocks-zero s k z in
+    rw (a .rule, exempt (s .loaded) j k (λ z. omega arith) (a .made), le-leb j 512 (omega (arith, a .most)))
 
 -- and after some of the clocks the others are not refused
 pub clocks-rest : (s : Vram) (j k : ℕ) → Places s → clocksRefusal s (j + k) ≡ 0 → clocksRefusal (clocks j s) k ≡ 0
 unfolding clocksRefusal
 clocks-rest s j k p z =
-    let a = refuse-zero (ruled s) 0 _ z in
-    let b = refuse-zero (eqb (j + k) 0 || s .loaded) 9 _ (a .1) in
-    let c = refuse-zero (leb (j + k) 512) 13 0 (b .1) in
-    let m : j + k ≤ 512 = leb-true (j + k) 512 (c .0) in
-    rw (clocks-ruled half half-partition j s p (a .0), clocks-loaded half j s, exempt (s .loaded) k (j + k) (λ z. omega arith) (b .0), le-leb k 512 (omega arith))
+    let a = clocks-zero s (j + k) z in
+    rw (clocks-ruled half half-partition j s p (a .rule), clocks-loaded half j s, exempt (s .loaded) k (j + k) (λ z. omega arith) (a .made), le-leb k 512 (omega (arith, a .most)))
