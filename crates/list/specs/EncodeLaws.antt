@@ -12,7 +12,7 @@ use borrow.Author.Tests.{le-leb, leb-true, eq-eqb}
 use Rattle.vram.specs.declared.Cycle.{Cycle}
 use Rattle.vram.specs.declared.Cycle.the-variants.{WordWrite, BlockWrite, LoadColour, LoadMask, ResetRefresh, FullTransfer, SplitTransfer}
 use Rattle.vram.specs.Kinds.{tagOf}
-use Rattle.vram.specs.RefusalLaws.{both}
+use Rattle.numbers.specs.Between.{both}
 use Rattle.vram.specs.CaseLaws.{tag-word, tag-block, tag-colour, tag-mask, tag-reset, tag-full, tag-split}
 use Rattle.list.specs.Tags.{word, known, lenOf, cycleOf}
 use Rattle.list.specs.TagLaws.{len-most}

@@ -8,7 +8,7 @@ use lib.Dec.{eqb, leb}
 use lib.ListN.{length, drop, length-append, length-drop, List·getD-append}
 use lib.Seq.{take-append-le, drop-append-le, drop-nil}
 use borrow.Author.Tests.{leb-true, le-leb}
-use Rattle.vram.specs.RefusalLaws.{both}
+use Rattle.numbers.specs.Between.{both}
 use Rattle.list.specs.Tags.{word, known, lenOf, cycleOf}
 use Rattle.list.specs.Fields.{Field, Reads, Unreadable, tag, body, headed, whole, fieldOf, parts, fields}
 use Rattle.list.specs.Meaning.{readable}

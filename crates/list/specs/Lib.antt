@@ -12,6 +12,7 @@ pub mod CallLaws
 pub mod CountLaws
 pub mod JoinLaws
 pub mod EncodeLaws
+pub mod EncodedLaws
 pub mod WaitsLaws
 pub mod RangeLaws
 pub mod Once

@@ -72,9 +72,12 @@ pub record Outcome : Type 0 where
   pub given : Bad
   pub after : Board
 
+abbrev pub gives : Bad → Board → Outcome
+gives v b = record { given = v; after = b }
+
 abbrev pub outcome : Ran → List ℕ → List ℕ → Outcome
-outcome r m q = record { given = bad (r .number) (r .place); after = board (r .state) m q }
+outcome r m q = gives (bad (r .number) (r .place)) (board (r .state) m q)
 
 -- checked whole, then run in order; a refusal changes nothing
 unfoldable pub runCall : List ℕ → Board → Outcome
-runCall list b = record { given = verdictOf list b; after = leaves (verdictOf list b .number) b (run (cyclesOf list) b) }
+runCall list b = gives (verdictOf list b) (leaves (verdictOf list b .number) b (run (cyclesOf list) b))

@@ -7,7 +7,7 @@ use Prim.Native.Nat.{ℕ, zero, suc, _≤_, _<_}
 use native.Mathlib.Omega.{arith}
 use lib.Dec.{eqb, leb}
 use borrow.Author.Tests.{leb-true, le-leb, lt-leb, ne-eqb}
-use Rattle.vram.specs.RefusalLaws.{both}
+use Rattle.numbers.specs.Between.{both}
 use Rattle.vram.specs.Refusal.{writeRefusal, loadRefusal, fullRefusal, splitRefusal, refusal}
 use Rattle.vram.specs.Kinds.{tagOf, loads}
 use Rattle.list.specs.Tags.{byte, word, known, lenOf, cycleOf}

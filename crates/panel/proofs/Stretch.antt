@@ -10,8 +10,9 @@ use Rattle.vram.specs.declared.Vram.{Vram}
 use Rattle.vram.specs.Serial.{half, through, clocks, words}
 use Rattle.vram.specs.SerialLaws.{half-partition, words-within}
 use Rattle.panel.specs.Panel.{Panel, bytesOf, shown}
-use Rattle.panel.specs.PanelLaws.{bytes-length, shown-add, shown-length, over-length, over-more}
-use Rattle.panel.specs.Calls.{over}
+use Rattle.panel.specs.PanelLaws.{bytes-length, shown-add, shown-length, over-more}
+use Rattle.numbers.specs.BufferLaws.{over-length}
+use Rattle.numbers.specs.Buffer.{over}
 
 -- a part that runs to the end, and the whole when it is back
 tail-part : (l : List ℕ) (at : ℕ) → take (length l - at) (drop at l) ≡ drop at l

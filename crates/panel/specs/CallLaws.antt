@@ -12,14 +12,15 @@ use Rattle.numbers.specs.RefuseLaws.{refuse-zero, firstOf-zero, leaves-before}
 use Rattle.vram.specs.declared.Vram.{Vram}
 use Rattle.vram.specs.declared.Answered.{Answered}
 use Rattle.vram.specs.State.{ruled}
-use Rattle.vram.specs.RefusalLaws.{both}
+use Rattle.numbers.specs.Between.{both}
 use Rattle.vram.specs.Serial.{clocks}
 use Rattle.vram.specs.Calls.{answered, clocksRefusal, clocksCall}
 use Rattle.vram.specs.CallLaws.{clocks-number, clocks-moves}
 use Rattle.palette.specs.declared.Palette.{Palette}
 use Rattle.palette.specs.State.{ruled as paletteRuled}
 use Rattle.panel.specs.Panel.{panelOf, painted}
-use Rattle.panel.specs.Calls.{over, runRefusal, outcome, runCall}
+use Rattle.numbers.specs.Buffer.{over}
+use Rattle.panel.specs.Calls.{runRefusal, outcome, runCall}
 
 pub record Accepted (s : Vram) (p : Palette) (serial table k bytes : ℕ) : Type 0 where
   pub rule : ruled s ≡ true

@@ -1,10 +1,11 @@
 -- What a run answers and leaves, for every input. A refusal changes nothing. Assumes nothing.
 use Prim.Native.Nat.{ℕ, _*_}
 use mathlib.Core.Bool.{_&&_}
-use mathlib.Core.List.{List, _++_}
+use mathlib.Core.List.{List}
 use lib.Dec.{eqb, leb}
-use lib.ListN.{length, drop}
+use lib.ListN.{length}
 use Rattle.numbers.specs.Refuse.{refuse, firstOf, leaves}
+use Rattle.numbers.specs.Buffer.{over}
 use Rattle.vram.specs.declared.Vram.{Vram}
 use Rattle.vram.specs.declared.Answered.{Answered}
 use Rattle.vram.specs.State.{ruled}
@@ -13,10 +14,6 @@ use Rattle.vram.specs.Calls.{answered, clocksRefusal}
 use Rattle.palette.specs.declared.Palette.{Palette}
 use Rattle.palette.specs.State.{ruled as paletteRuled}
 use Rattle.panel.specs.Panel.{panelOf, painted}
-
--- bytes at the start of a buffer; the spare ones stay
-abbrev pub over : List ℕ → List ℕ → List ℕ
-over bytes out = bytes ++ drop (length bytes) out
 
 -- 1 and 3 for what is given, 10 and 14 as the clocks are refused, 15 for the buffer
 unfoldable pub runRefusal : Vram → Palette → ℕ → ℕ → ℕ → ℕ → ℕ

@@ -12,8 +12,10 @@ use Rattle.vram.specs.CallLaws.{clocks-fewer, clocks-rest}
 use Rattle.vram.specs.Calls.{answered}
 use Rattle.palette.specs.declared.Palette.{Palette}
 use Rattle.panel.specs.Panel.{panelOf, painted}
-use Rattle.panel.specs.PanelLaws.{painted-add, painted-length, over-length, over-more}
-use Rattle.panel.specs.Calls.{over, runRefusal, Outcome, outcome, runCall}
+use Rattle.panel.specs.PanelLaws.{painted-add, painted-length, over-more}
+use Rattle.numbers.specs.Buffer.{over}
+use Rattle.numbers.specs.BufferLaws.{over-length}
+use Rattle.panel.specs.Calls.{runRefusal, Outcome, outcome, runCall}
 use Rattle.panel.specs.CallLaws.{run-zero, run-accepted, run-made}
 
 -- where a run of j + k is not refused, neither is the run of j, nor the run of k at the state and the bytes that the first leaves

@@ -14,7 +14,8 @@ use Rattle.vram.specs.Serial.{half, clocks, words}
 use Rattle.vram.specs.SerialLaws.{words-none, words-add, words-length}
 use Rattle.palette.specs.Table.{Colour, store}
 use Rattle.panel.specs.Panel.{Panel, colourOf, bytesOf, shown, zeros, painted}
-use Rattle.panel.specs.Calls.{over}
+use Rattle.numbers.specs.Buffer.{over}
+use Rattle.numbers.specs.BufferLaws.{over-length}
 
 abbrev pub bytes : Colour → List ℕ
 bytes c = c .red ∷ c .green ∷ c .blue ∷ []
@@ -43,9 +44,6 @@ pub shown-add : (p : Panel) (j k : ℕ) (s : Vram) (r : List ℕ) → shown p (j
 shown-add p j k s r = ap (bytesOf p) (words-add half j k s r) ∙ bytes-append p (words j s r) (words k (clocks j s) r)
 
 -- ---- bytes at the start of a buffer
-
-pub over-length : (bs out : List ℕ) → length bs ≤ length out → length (over bs out) ≡ length out
-over-length bs out h = length-append bs (drop (length bs) out) ∙ simp length-drop (omega arith)
 
 -- no clocks show nothing
 pub over-none : (p : Panel) (s : Vram) (r out : List ℕ) → out ≡ over (shown p 0 s r) out

@@ -5,7 +5,7 @@ ghost use lib.Bits.{bitAnd};
 ghost use lib.ListN.{length};
 ghost use Rattle.palette.specs.Table.{store};
 ghost use Rattle.panel.specs.Panel.{pixel, part, panelOf, colourOf, bytesOf};
-ghost use Rattle.panel.specs.Calls.{over};
+ghost use Rattle.numbers.specs.Buffer.{over};
 
 // A word's pixel: its high byte, or its low byte where the high byte is 0.
 fn pixel(word: u16) -> u8

@@ -6,7 +6,7 @@ ghost use lib.ListN.{length, take, drop};
 ghost use Rattle.vram.specs.Serial.{clocks as movedBy, words};
 ghost use Rattle.vram.specs.Calls.{clocksRefusal};
 ghost use Rattle.panel.specs.Panel.{panelOf, bytesOf, shown, zeros, painted};
-ghost use Rattle.panel.specs.Calls.{over};
+ghost use Rattle.numbers.specs.Buffer.{over};
 use crate::pixels::show_words;
 use vram::Vram;
 

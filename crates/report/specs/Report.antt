@@ -3,8 +3,9 @@ use Prim.Native.Nat.{ℕ}
 use mathlib.Core.Bool.{cond}
 use mathlib.Core.List.{List, [], _++_}
 use lib.Dec.{eqb, leb}
-use lib.ListN.{length, drop, replicate}
+use lib.ListN.{length, replicate}
 use Rattle.numbers.specs.Refuse.{refuse, leaves}
+use Rattle.numbers.specs.Buffer.{over}
 use Rattle.vram.specs.State.{fresh}
 use Rattle.vram.specs.Board.{Board, board}
 use Rattle.list.specs.Meaning.{Outcome, runCall}
@@ -34,4 +35,4 @@ told r text = record { answer = r; buffer = text }
 unfoldable pub reportCall : List ℕ → List ℕ → Told
 reportCall list text =
     let n = refuse (leb (length (textOf list)) (length text)) 15 0 in
-    told (record { number = n; bytes = leaves n 0 (length (textOf list)) }) (leaves n text (textOf list ++ drop (length (textOf list)) text))
+    told (record { number = n; bytes = leaves n 0 (length (textOf list)) }) (leaves n text (over (textOf list) text))

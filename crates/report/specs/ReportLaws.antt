@@ -11,6 +11,7 @@ use lib.Seq.{take-all, take-at}
 use borrow.Author.Tests.{eqb-true, eqb-false, eq-eqb, ne-eqb, le-leb, lt-leb, leb-true}
 use Rattle.numbers.specs.Refuse.{refuse, leaves}
 use Rattle.numbers.specs.RefuseLaws.{refuse-zero, leaves-before}
+use Rattle.numbers.specs.Buffer.{over}
 use Rattle.vram.specs.RuleLaws.{run-sized}
 use Rattle.list.specs.declared.Ran.{Ran}
 use Rattle.list.specs.Meaning.{Outcome, outcome, cyclesOf, verdictOf, runCall}
@@ -111,7 +112,7 @@ module _ (list page page′ : List ℕ) (bytes : ℕ) (p : Put page 0 (textOf li
     pub report-refused : n ≢ 0 → told (reported n 0) text ≡ reportCall list text
     unfolding reportCall
     report-refused h =
-        rw (← number-is, leaves-before n 0 (length (textOf list)) h, leaves-before n text (textOf list ++ drop (length (textOf list)) text) h)
+        rw (← number-is, leaves-before n 0 (length (textOf list)) h, leaves-before n text (over (textOf list) text) h)
 
     pub report-done : n ≡ 0 → (text′ : List ℕ) (end : ℕ) → Put text 0 (take bytes page′) text′ end → told (reported 0 bytes) text′ ≡ reportCall list text
     unfolding reportCall

@@ -7,8 +7,10 @@ use native.Mathlib.Omega.{arith}
 use native.Mathlib.Nat.{add-zero}
 use native.Mathlib.Numerals.{add-one}
 use lib.Dec.{eqb, ltb}
-use lib.ListN.{length, getD, set, take, drop, length-append, length-take}
-use lib.Seq.{sets, sets-eq, length-sets, take-suc}
+use lib.ListN.{length, getD, set, take, length-append, length-take}
+use lib.Seq.{sets, length-sets, take-suc}
+use Rattle.numbers.specs.Buffer.{over}
+use Rattle.numbers.specs.BufferLaws.{sets-append, over-sets}
 use Rattle.report.specs.Text.{digit, decimal, hex, wordLine, wordLines}
 
 -- ---- bytes written from a place of a buffer on, and the place after them
@@ -16,12 +18,6 @@ use Rattle.report.specs.Text.{digit, decimal, hex, wordLine, wordLines}
 pub record Put (t : List ℕ) (at : ℕ) (bytes t′ : List ℕ) (at′ : ℕ) : Type 0 where
   pub text : t′ ≡ sets t at bytes
   pub end : at′ ≡ at + length bytes
-
-sets-append : (a b t : List ℕ) (at : ℕ) → sets (sets t at a) (at + length a) b ≡ sets t at (a ++ b)
-sets-append [] b t at = ap (λ (n : ℕ). sets t n b) (add-zero at)
-sets-append (x ∷ a) b t at =
-    let e : at + suc (length a) ≡ suc at + length a = omega arith in
-    ap (λ (n : ℕ). sets (sets (set t at x) (suc at) a) n b) e ∙ sets-append a b (set t at x) (suc at)
 
 length-take-is : (n : ℕ) (l : List ℕ) → n ≤ length l → length (take n l) ≡ n
 length-take-is n l h = simp length-take (omega arith)
@@ -59,10 +55,8 @@ put-next t now bs at i h e =
     ap₂ (λ (x : List ℕ) (k : ℕ). set x k (getD bs i 0)) e n ∙ sets-append (take i bs) (getD bs i 0 ∷ []) t at ∙ ap (sets t at) (sym s)
 
 -- from the start of a buffer, with room: the text, and the spare bytes as they were
-pub put-over : {t t′ bs : List ℕ} {at′ : ℕ} → Put t 0 bs t′ at′ → length bs ≤ length t → t′ ≡ bs ++ drop (length bs) t
-put-over {t} {t′} {bs} p h =
-    let e : 0 + length bs ≡ length bs = omega arith in
-    p .text ∙ sets-eq bs t 0 (omega arith) ∙ ap (λ (n : ℕ). bs ++ drop n t) e
+pub put-over : {t t′ bs : List ℕ} {at′ : ℕ} → Put t 0 bs t′ at′ → length bs ≤ length t → t′ ≡ over bs t
+put-over {t} {t′} {bs} p h = p .text ∙ over-sets bs t h
 
 -- ---- lengths
 

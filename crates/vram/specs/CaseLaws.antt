@@ -3,9 +3,10 @@ use mathlib.Core.Path.{_≡_, refl, ap, _∙_}
 use mathlib.Core.Bool.{Bool, true, false, _&&_, _||_}
 use mathlib.Core.List.{List, [], _∷_}
 use mathlib.Core.Logic.{_≢_, _⊎_, inl, inr, ⊎-elim}
-use Prim.Native.Nat.{ℕ, _/_, _≤_}
+use Prim.Native.Nat.{ℕ, _/_, _≤_, _<_}
 use native.Mathlib.Omega.{arith}
 use lib.Dec.{eqb, leb, ltb}
+use borrow.Author.Tests.{lt-ltb, le-leb}
 use Rattle.numbers.specs.Refuse.{refuse}
 use Rattle.numbers.specs.RefuseLaws.{firstOf-later}
 use Rattle.vram.specs.declared.Cycle.{Cycle}
@@ -83,6 +84,23 @@ module _ (rows : ℕ) (made : Bool) where
   pub refusal-split : (row half tap : ℕ) → refusal rows made (SplitTransfer row half tap) ≡ splitRefusal rows made row half tap
   unfolding refusal
   refusal-split row half tap = refl
+
+-- a write that is masked, with both strobes, in the rows fitted is not refused, nor is a colour load with both strobes
+
+masked-write : (rows row column mask : ℕ) → row < rows → column ≤ 511 → writeRefusal rows row column 1 mask 3 ≡ 0
+unfolding writeRefusal
+masked-write rows row column mask h k = rw (lt-ltb row rows h, le-leb column 511 k)
+
+module _ (rows : ℕ) (made : Bool) where
+  pub word-accepted : (row column word mask : ℕ) → row < rows → column ≤ 511 → refusal rows made (WordWrite row column word 1 mask 3) ≡ 0
+  word-accepted row column word mask h k = refusal-word rows made row column word 1 mask 3 ∙ masked-write rows row column mask h k
+
+  pub block-accepted : (row column columns mask : ℕ) → row < rows → column ≤ 511 → refusal rows made (BlockWrite row column columns 1 mask 3) ≡ 0
+  block-accepted row column columns mask h k = refusal-block rows made row column columns 1 mask 3 ∙ masked-write rows row column mask h k
+
+  pub colour-accepted : (word : ℕ) → refusal rows made (LoadColour word 3) ≡ 0
+  unfolding loadRefusal
+  colour-accepted word = refusal-colour rows made word 3
 
 -- what refuses a cycle is 5 to 10
 

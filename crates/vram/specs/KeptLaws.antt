@@ -5,7 +5,7 @@ use Prim.Native.Nat.{_<_}
 use native.Mathlib.Omega.{arith}
 use Rattle.vram.specs.declared.Cycle.{Cycle}
 use Rattle.vram.specs.declared.Cycle.the-variants.{WordWrite, BlockWrite, LoadColour, LoadMask, ResetRefresh, FullTransfer, SplitTransfer}
-use Rattle.vram.specs.Board.{Board, effect}
+use Rattle.vram.specs.Board.{Board, board, effect}
 use Rattle.vram.specs.Step.{number, step}
 use Rattle.vram.specs.StepLaws.{step-acts, step-holds}
 use Rattle.vram.specs.Kinds.{tagOf, loads}
@@ -25,6 +25,20 @@ module _ (b : Board) where
 
   pub memory-kept : (c : Cycle) → 2 < tagOf c → step c b .memory ≡ b .memory
   memory-kept c h = step-holds (λ x. x .memory ≡ b .memory) effect c b refl (λ z. effect-memory c h)
+
+  -- and touch nothing else
+  effect-only : (c : Cycle) → tagOf c < 3 → effect c b ≡ board (b .state) (effect c b .memory) (b .serial)
+  unfolding effect tagOf
+  effect-only (WordWrite row column word masking mask strobes) h = refl
+  effect-only (BlockWrite row column columns masking mask strobes) h = refl
+  effect-only (LoadColour word strobes) h = absurd (omega arith)
+  effect-only (LoadMask word strobes) h = absurd (omega arith)
+  effect-only ResetRefresh h = absurd (omega arith)
+  effect-only (FullTransfer row half tap) h = absurd (omega arith)
+  effect-only (SplitTransfer row half tap) h = absurd (omega arith)
+
+  pub only-memory : (c : Cycle) → tagOf c < 3 → step c b ≡ board (b .state) (step c b .memory) (b .serial)
+  only-memory c h = step-holds (λ x. x ≡ board (b .state) (x .memory) (b .serial)) effect c b refl (λ z. effect-only c h)
 
   -- ---- only a colour load (3) changes the colour register
 

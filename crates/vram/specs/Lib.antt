@@ -7,6 +7,7 @@ pub mod Step
 pub mod Serial
 pub mod Calls
 pub mod Kinds
+pub mod Aims
 pub mod ListLaws
 pub mod MemoryLaws
 pub mod RefusalLaws
@@ -14,6 +15,7 @@ pub mod StepLaws
 pub mod Writes
 pub mod CycleLaws
 pub mod KeptLaws
+pub mod AimLaws
 pub mod SerialLaws
 pub mod RuleLaws
 pub mod CallLaws

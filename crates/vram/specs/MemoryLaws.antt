@@ -1,14 +1,15 @@
 -- Laws of writes and copies on a slice of words. Assumes nothing.
 use mathlib.Core.Path.{_≡_, refl, ap, _∙_}
-use mathlib.Core.Bool.{Bool, true, false, _&&_, cond}
+use mathlib.Core.Bool.{Bool, true, false, cond}
 use mathlib.Core.List.{List, map, map-append}
 use mathlib.Core.Logic.{_≢_, _⊎_, inl, inr, ⊎-elim}
 use Prim.Native.Nat.{ℕ, zero, suc, _+_, _-_, _≤_, _<_}
 use native.Mathlib.Omega.{arith}
-use lib.Dec.{eqb, leb, ltb}
+use lib.Dec.{eqb}
 use lib.ListN.{length, getD, set, take, drop, length-set, length-drop}
 use lib.Seq.{length-paste, getD-set-same, getD-set-other, drop-set-lt, drop-set-add, take-set-le}
-use borrow.Author.Tests.{eqb-true, eqb-false, lt-ltb, le-ltb, le-leb, ltb-true, ltb-false, leb-true}
+use borrow.Author.Tests.{eqb-true, eqb-false}
+use Rattle.numbers.specs.Between.{between, between-in, between-says, between-out, same-truth}
 use Rattle.words.specs.Word.{merged}
 use Rattle.words.specs.WordLaws.{merged-cong}
 use Rattle.vram.specs.Memory.{put, puts, copied}
@@ -55,30 +56,29 @@ put-at m at new w a h = go (eqb a at) refl
 
 -- a lies among k places from base on
 abbrev pub among : ℕ → ℕ → ℕ → Bool
-among base k a = leb base a && ltb a (base + k)
+among base k a = between base (base + k) a
 
-pub among-in : (base k a : ℕ) → base ≤ a → a < base + k → among base k a ≡ true
-among-in base k a h l = rw (le-leb base a h, lt-ltb a (base + k) l)
+pub among-one : (base a : ℕ) → among base 1 a ≡ eqb a base
+among-one base a = go (eqb a base) refl
+  where
+    go : (t : Bool) → eqb a base ≡ t → among base 1 a ≡ t
+    go true e = let z : a ≡ base = eqb-true a base e in between-in base (base + 1) a (omega arith) (omega arith)
+    go false e = let z : a ≢ base = eqb-false a base e in between-out base (base + 1) a (λ h. z (omega arith))
 
 among-zero : (base a : ℕ) → among base 0 a ≡ false
-among-zero base a = go (leb base a) refl
-  where
-    go : (t : Bool) → leb base a ≡ t → (t && ltb a (base + 0)) ≡ false
-    go true e = let h : base ≤ a = leb-true base a e in le-ltb a (base + 0) (omega arith)
-    go false e = refl
+among-zero base a = between-out base (base + 0) a (λ h. omega arith)
 
 among-last : (base k : ℕ) → among base (suc k) (base + k) ≡ true
-among-last base k = among-in base (suc k) (base + k) (omega arith) (omega arith)
+among-last base k = between-in base (base + suc k) (base + k) (omega arith) (omega arith)
 
 among-over : (base k : ℕ) → among base k (base + k) ≡ false
-among-over base k = rw (le-leb base (base + k) (omega arith), le-ltb (base + k) (base + k) (omega arith))
+among-over base k = between-out base (base + k) (base + k) (λ h. omega arith)
 
 among-other : (base k a : ℕ) → a ≢ base + k → among base (suc k) a ≡ among base k a
-among-other base k a n = ap (λ (t : Bool). leb base a && t) (go (ltb a (base + k)) refl)
-  where
-    go : (t : Bool) → ltb a (base + k) ≡ t → ltb a (base + suc k) ≡ t
-    go true e = let h : a < base + k = ltb-true a (base + k) e in lt-ltb a (base + suc k) (omega arith)
-    go false e = let h : base + k ≤ a = ltb-false a (base + k) e in le-ltb a (base + suc k) (omega arith)
+among-other base k a n =
+    same-truth (among base (suc k) a) (among base k a)
+    (λ e. let h = between-says base (base + suc k) a e in between-in base (base + k) a (omega arith) (omega arith))
+    (λ e. let h = between-says base (base + k) a e in between-in base (base + suc k) a (omega arith) (omega arith))
 
 module _ (m : List ℕ) (base new : ℕ) (w : ℕ → ℕ → Bool) (a : ℕ) (h : a < length m) where
   pub puts-at : (k : ℕ) → getD (puts m base new w k) a 0 ≡ cond (among base k a) (merged (getD m a 0) new (w (a - base))) (getD m a 0)

@@ -1,19 +1,16 @@
 -- What holds where nothing is refused. Assumes nothing.
-use mathlib.Core.Path.{_≡_, refl, sym}
-use mathlib.Core.Bool.{Bool, true, false, _&&_, true≢false}
+use mathlib.Core.Path.{_≡_}
+use mathlib.Core.Bool.{Bool, true, false, _&&_}
 use Prim.Native.Nat.{ℕ, _+_, _*_, _/_, _%_, _≤_, _<_}
 use native.Mathlib.Omega.{arith}
 use lib.Dec.{eqb, leb, ltb}
-use borrow.Author.Tests.{eqb-true, leb-true, ltb-true}
+use borrow.Author.Tests.{eqb-true, eq-eqb, leb-true, le-leb, ltb-true}
 use Rattle.numbers.specs.Refuse.{refuse}
 use Rattle.numbers.specs.RefuseLaws.{refuse-zero}
+use Rattle.numbers.specs.Between.{both}
 use Rattle.vram.specs.declared.Vram.{Vram}
 use Rattle.vram.specs.State.{ruled}
 use Rattle.vram.specs.Refusal.{fitted, given, writeRefusal, fullRefusal, splitRefusal, readRefusal}
-
-pub both : (p q : Bool) → (p && q) ≡ true → (p ≡ true) × (q ≡ true)
-both true q e = (refl, e)
-both false q e = absurd (true≢false (sym e))
 
 -- ---- the state and the lengths given
 
@@ -29,6 +26,16 @@ given-zero s words serial e =
     let q = refuse-zero (fitted words) 1 _ (p .1) in
     let r = refuse-zero (eqb serial 256) 2 0 (q .1) in
     record { rule = p .0; rows = q .0; register = eqb-true serial 256 (r .0) }
+
+-- the other way round, of so many rows
+pub rows-fitted : (rows : ℕ) → 1 ≤ rows → rows ≤ 512 → fitted (512 * rows) ≡ true
+rows-fitted rows h k =
+    let e : 512 * rows % 512 ≡ 0 = omega arith in
+    rw (le-leb 512 (512 * rows) (omega arith), le-leb (512 * rows) 262144 (omega arith), e)
+
+pub given-done : (s : Vram) (words serial : ℕ) → Given s words serial → given s words serial ≡ 0
+unfolding given
+given-done s words serial g = rw (g .rule, g .rows, eq-eqb serial 256 (g .register))
 
 -- the state counts by its rule alone
 pub given-rule : (s t : Vram) (words serial : ℕ) → ruled s ≡ ruled t → given s words serial ≡ given t words serial

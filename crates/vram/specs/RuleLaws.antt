@@ -14,7 +14,7 @@ use Rattle.vram.specs.declared.Waiting.{Waiting}
 use Rattle.vram.specs.declared.Waiting.the-variants.{None, Tap}
 use Rattle.vram.specs.declared.Cycle.{Cycle}
 use Rattle.vram.specs.declared.Cycle.the-variants.{WordWrite, BlockWrite, LoadColour, LoadMask, ResetRefresh, FullTransfer, SplitTransfer}
-use Rattle.vram.specs.State.{other, waitingOk, ruled}
+use Rattle.vram.specs.State.{withColour, withMask, other, waitingOk, ruled}
 use Rattle.vram.specs.Memory.{puts}
 use Rattle.vram.specs.MemoryLaws.{copied-length}
 use Rattle.vram.specs.Board.{Board, effect}
@@ -83,6 +83,12 @@ step-row r c b h = step-holds (λ x. rowOf r (x .memory) ≡ rowOf r (b .memory)
         ⊎-elim (λ e. rw e)
         (λ n. written-row (writes c (b .state)) (b .memory) r n (writes-within (rowsOf b) (b .state .loaded) c (b .state) (number-zero c b z .1)))
         (writes-elsewhere r c (b .state) h)
+
+-- ---- the state's rule says nothing of the colour and mask registers
+
+pub registers-ruled : (s : Vram) (colour mask : ℕ) (p : Bool) → ruled (withMask (withColour s colour) mask p) ≡ ruled s
+unfolding ruled
+registers-ruled s colour mask p = refl
 
 -- ---- the state's rule, by a cycle
 

@@ -98,23 +98,20 @@ module _ (w : Writes) (m : List ℕ) where
   pub written-length : length (written w m) ≡ length m
   written-length = puts-length m (base w) (w .pen) (w .through) (w .count)
 
+  pub written-at : (a : ℕ) → a < length m
+      → getD (written w m) a 0 ≡ cond (among (base w) (w .count) a) (merged (getD m a 0) (w .pen) (w .through (a - base w))) (getD m a 0)
+  written-at a h = puts-at m (base w) (w .pen) (w .through) a h (w .count)
+
   -- each bit that must change changes, every other bit stays
   pub written-bit : (a i : ℕ) → a < length m → i < 16
       → bit (getD (written w m) a 0) i
       ≡ cond (among (base w) (w .count) a && w .through (a - base w) i) (bit (w .pen) i) (bit (getD m a 0) i)
-  written-bit a i h k =
-      ap (λ (n : ℕ). bit n i) (puts-at m (base w) (w .pen) (w .through) a h (w .count)) ∙ go (among (base w) (w .count) a)
+  written-bit a i h k = ap (λ (n : ℕ). bit n i) (written-at a h) ∙ go (among (base w) (w .count) a)
     where
       go : (t : Bool) → bit (cond t (merged (getD m a 0) (w .pen) (w .through (a - base w))) (getD m a 0)) i
           ≡ cond (t && w .through (a - base w) i) (bit (w .pen) i) (bit (getD m a 0) i)
       go true = merged-bit (getD m a 0) (w .pen) (w .through (a - base w)) i k
       go false = refl
-
-  -- a word outside stays
-  pub written-other : (a : ℕ) → a < length m → among (base w) (w .count) a ≡ false → getD (written w m) a 0 ≡ getD m a 0
-  written-other a h e =
-      puts-at m (base w) (w .pen) (w .through) a h (w .count)
-      ∙ ap (λ (t : Bool). cond t (merged (getD m a 0) (w .pen) (w .through (a - base w))) (getD m a 0)) e
 
 -- the words of row r
 abbrev pub rowOf : ℕ → List ℕ → List ℕ

@@ -196,3 +196,21 @@ unfolding ofBits
 bit-ofBits zero f b h = absurd (omega arith)
 bit-ofBits (suc k) f zero h = bit-double-zero (ofBits k (λ b. f (suc b))) (f 0)
 bit-ofBits (suc k) f (suc b) h = bit-double-suc (ofBits k (λ b. f (suc b))) b (f 0) ∙ bit-ofBits k (λ b. f (suc b)) b (omega arith)
+
+-- a number of k bits that is not 0 has one that is set
+pub some-bit : (k n : ℕ) → n < 2 ^ k → 0 < n → (b : ℕ) × (b < k) × (bit n b ≡ true)
+some-bit zero n h p = absurd (omega arith)
+some-bit (suc k) n h p = go (bit n 0) refl (λ q. some-bit k (n / 2) (omega (arith, pow-suc 2 k)) q)
+  where
+    go : (t : Bool) → bit n 0 ≡ t → (0 < n / 2 → (b : ℕ) × (b < k) × (bit (n / 2) b ≡ true)) → (b : ℕ) × (b < suc k) × (bit n b ≡ true)
+    go true e f = (0, omega arith, e)
+    go false e f =
+        let even : n % 2 ≡ 0 = sym (bit-zero n) ∙ ap digit e in
+        let r = f (omega arith) in
+        (suc (r .0), omega (arith, r .1), sym (bit-half n (r .0)) ∙ r .2)
+
+-- 0 has none
+pub bit-none : (b : ℕ) → bit 0 b ≡ false
+unfolding bit
+bit-none zero = refl
+bit-none (suc b) = sym (bit-half 0 b) ∙ bit-none b

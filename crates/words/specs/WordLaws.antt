@@ -1,12 +1,12 @@
 -- Laws of words: the definitions read bit by bit, and what a merge keeps of a byte. Assumes nothing.
 use mathlib.Core.Path.{_≡_, refl, sym, ap, _∙_}
-use mathlib.Core.Bool.{Bool, cond}
-use Prim.Native.Nat.{ℕ, _+_, _/_, _^_, _<_}
+use mathlib.Core.Bool.{Bool, true, false, cond}
+use Prim.Native.Nat.{ℕ, _+_, _*_, _/_, _^_, _<_}
 use native.Mathlib.Omega.{arith}
 use lib.Pow.{shr-lt}
 use Rattle.words.specs.Bit.{bit, ofBits}
-use Rattle.words.specs.BitLaws.{bit-shr, bits-eq, of-bits, bit-ofBits, ofBits-lt, ofBits-cong}
-use Rattle.words.specs.Word.{merged, high}
+use Rattle.words.specs.BitLaws.{bit-shr, bit-ones, bits-eq, of-bits, bit-ofBits, ofBits-lt, ofBits-cong}
+use Rattle.words.specs.Word.{merged, covers, lets, high}
 
 -- ---- a merge, bit by bit
 
@@ -31,6 +31,35 @@ unfolding merged
 merged-cong old new v w e =
     ofBits-cong 16 (λ b. cond (v b) (bit new b) (bit old b)) (λ b. cond (w b) (bit new b) (bit old b))
     (λ b l. ap (λ (t : Bool). cond t (bit new b) (bit old b)) (e b l))
+
+-- where nothing goes through the old word stays, where all does it is the new one
+pub merged-none : (old new : ℕ) (w : ℕ → Bool) → old < 2 ^ 16 → ((b : ℕ) → b < 16 → w b ≡ false) → merged old new w ≡ old
+merged-none old new w h e = sym (merged-is old new w old h (λ b l. ap (λ (t : Bool). cond t (bit new b) (bit old b)) (sym (e b l))))
+
+pub merged-all : (old new : ℕ) (w : ℕ → Bool) → new < 2 ^ 16 → ((b : ℕ) → b < 16 → w b ≡ true) → merged old new w ≡ new
+merged-all old new w h e = sym (merged-is old new w new h (λ b l. ap (λ (t : Bool). cond t (bit new b) (bit old b)) (sym (e b l))))
+
+-- the same merge again changes nothing
+pub merged-again : (old new : ℕ) (w : ℕ → Bool) → merged (merged old new w) new w ≡ merged old new w
+merged-again old new w =
+    sym (merged-is (merged old new w) new w (merged old new w) (merged-lt old new w)
+    (λ b l. merged-bit old new w b l ∙ go (w b) (bit new b) (bit old b) ∙ ap (cond (w b) (bit new b)) (sym (merged-bit old new w b l))))
+  where
+    go : (t p q : Bool) → cond t p q ≡ cond t p (cond t p q)
+    go true p q = refl
+    go false p q = refl
+
+-- ---- strobes and column masks
+
+-- both strobes cover every bit
+pub covers-both : (b : ℕ) → b < 16 → covers 3 b ≡ true
+unfolding covers
+covers-both b h = bit-ones 2 (b / 8) (omega arith)
+
+-- a column mask that is known by its bits
+pub lets-bit : (f : ℕ → Bool) (j b : ℕ) → j < 4 → b < 16 → lets (ofBits 16 f) j b ≡ f (4 * (b / 4) + j)
+unfolding lets
+lets-bit f j b k h = bit-ofBits 16 f (4 * (b / 4) + j) (omega arith)
 
 -- ---- masks that are known by their bits
 

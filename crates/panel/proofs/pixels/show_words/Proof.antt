@@ -11,7 +11,7 @@ use native.Mathlib.Omega.{arith}
 use lib.ListN.{length, take}
 use lib.Seq.{take-all}
 use Rattle.panel.specs.Panel.{panelOf, bytesOf}
-use Rattle.panel.specs.Calls.{over}
+use Rattle.numbers.specs.Buffer.{over}
 use Rattle.panel.specs.PanelLaws.{over-word}
 use Rattle.panel.proofs.pixels.show_words.Statement.{statement}
 use Rattle.panel.proofs.pixels.show_words.Tie as tie

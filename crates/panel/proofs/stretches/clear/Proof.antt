@@ -5,7 +5,7 @@ use Rattle.panel.specs.PanelLaws.{over-zero, zeros-size}
 use mathlib.Core.Path.{_≡_, refl, ap, _∙_}
 use native.Mathlib.Omega.{arith}
 use Rattle.panel.specs.Panel.{zeros}
-use Rattle.panel.specs.Calls.{over}
+use Rattle.numbers.specs.Buffer.{over}
 use Rattle.panel.proofs.stretches.clear.Statement.{statement}
 use Rattle.panel.proofs.stretches.clear.Tie as tie
 

@@ -4,7 +4,7 @@ use mathlib.Core.Path.{_≡_, ap, _∙_}
 use Prim.Native.Nat.{ℕ, _≤_, _-_}
 use native.Mathlib.Omega.{arith}
 use Rattle.panel.specs.Panel.{panelOf, shown}
-use Rattle.panel.specs.Calls.{over}
+use Rattle.numbers.specs.Buffer.{over}
 use Rattle.panel.specs.PanelLaws.{over-none}
 use Rattle.panel.proofs.Stretch.{one-turn}
 use Rattle.panel.proofs.stretches.show.Statement.{statement}

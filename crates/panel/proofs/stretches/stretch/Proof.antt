@@ -9,7 +9,7 @@ use Rattle.vram.specs.declared.Answered.{Answered}
 use Rattle.vram.specs.Serial.{clocks, words}
 use Rattle.vram.specs.CallLaws.{clocks-moves, clocks-fewer}
 use Rattle.panel.specs.Panel.{panelOf, bytesOf}
-use Rattle.panel.specs.Calls.{over}
+use Rattle.numbers.specs.Buffer.{over}
 use Rattle.panel.proofs.Stretch.{one-stretch}
 use borrow.Author.Needs.{needs}
 use Rattle.panel.proofs.stretches.stretch.Statement.{statement}

@@ -1,0 +1,21 @@
+-- `planner::refusal` meets its contract. Assumes nothing.
+use borrow.Author.Needs.{needs}
+use Rattle.planner.specs.Calls.{askedRefusal}
+use Rattle.planner.proofs.refusal.Statement.{statement}
+use Rattle.planner.proofs.refusal.Tie as tie
+
+refuse-requires : tie.Need-refuse-requires
+refuse-requires c κs = search needs
+
+refuse-requires-2 : tie.Need-refuse-requires-2
+refuse-requires-2 c κs = search needs
+
+refuse-requires-3 : tie.Need-refuse-requires-3
+refuse-requires-3 c κs = search needs
+
+returns : tie.Need-returns
+unfolding askedRefusal
+returns c = rw (c .before .refuse2 .ensures, c .before .before .refuse .ensures) at (c .refuse3 .ensures)
+
+pub refusal-spec : {M : Type 1} → statement M
+refusal-spec = tie.close (tie.spec refuse-requires refuse-requires-2 refuse-requires-3 returns)

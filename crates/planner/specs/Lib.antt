@@ -1,0 +1,23 @@
+-- Fills: the rule, what a list is to paint, and that no accepted list that paints it is shorter.
+pub mod Fill
+pub mod Calls
+pub mod Paint
+pub mod Bytes
+pub mod SeriesLaws
+pub mod FillLaws
+pub mod BytesLaws
+pub mod ColumnLaws
+pub mod PlanLaws
+pub mod CallLaws
+pub mod PaintLaws
+pub mod PlanPaints
+pub mod WrittenLaws
+pub mod Pigeon
+pub mod Bound
+pub mod PlanRuns
+pub mod Least
+pub mod ItPaints
+pub mod ItIsShortest
+pub mod ItCounts
+pub mod ClosedForm
+pub mod Once

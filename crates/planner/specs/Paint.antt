@@ -1,0 +1,61 @@
+-- What a fill's list is to do, and from where: demand 3. Assumes nothing.
+use Prim.Native.Nat.{ℕ, suc, _*_, _<_}
+use mathlib.Core.Path.{_≡_}
+use mathlib.Core.Bool.{true, false, cond}
+use mathlib.Core.List.{List, [], _∷_}
+use lib.ListN.{length, getD, take}
+use Rattle.words.specs.Bit.{bit}
+use Rattle.words.specs.Word.{merged}
+use Rattle.vram.specs.declared.Vram.{Vram}
+use Rattle.vram.specs.State.{withColour, withMask, ruled}
+use Rattle.vram.specs.Board.{Board, board}
+use Rattle.list.specs.Meaning.{verdictOf, runCall}
+use Rattle.planner.specs.Fill.{Fill, inside}
+use Rattle.planner.specs.Calls.{Outcome}
+
+-- ---- what the rectangle asks for
+
+-- each word by its number, the first being word `at`
+unfoldable pub mapAt : (ℕ → ℕ → ℕ) → ℕ → List ℕ → List ℕ
+mapAt g at [] = []
+mapAt g at (w ∷ m) = g at w ∷ mapAt g (suc at) m
+
+-- the rectangle's bits of M equal to the colour's, every other bit as it was (`painted-bit`)
+abbrev pub painted : Fill → List ℕ → List ℕ
+painted f m = mapAt (λ a w. cond (inside f a) (merged w (f .colour) (bit (f .mask))) w) 0 m
+
+-- the bytes that a fill has written
+abbrev pub written : Outcome → List ℕ
+written o = take (o .answer .bytes) (o .buffer)
+
+-- ---- from where
+
+-- mask and colour have 16 bits, as their arguments do
+pub record Wide (f : Fill) : Type 0 where
+  pub mask : f .mask < 65536
+  pub colour : f .colour < 65536
+
+-- a memory of the rows fitted: 512 words to a row, each of 16 bits
+pub record Memory (rows : ℕ) (m : List ℕ) : Type 0 where
+  pub size : length m ≡ 512 * rows
+  pub words : (a : ℕ) → getD m a 0 < 65536
+
+-- a board that the rules allow, with the rows fitted, not persistent
+pub record Start (rows : ℕ) (b : Board) : Type 0 where
+  pub rule : ruled (b .state) ≡ true
+  pub memory : Memory rows (b .memory)
+  pub register : length (b .serial) ≡ 256
+  pub plain : b .state .persistent ≡ false
+
+-- ---- a list of bytes that paints, with one serial state and register: from every memory of the rows fitted, every colour register
+-- and every mask register, not persistent, it is accepted and leaves the memory that the rectangle asks for; of what else it leaves
+-- nothing is asked
+
+abbrev pub from : Vram → ℕ → ℕ → List ℕ → List ℕ → Board
+from s colour mask m r = board (withMask (withColour s colour) mask false) m r
+
+pub record Paints (f : Fill) (s : Vram) (r list : List ℕ) : Type 0 where
+  pub accepted : (colour mask : ℕ) (m : List ℕ) → colour < 65536 → mask < 65536 → Memory (f .rows) m
+      → verdictOf list (from s colour mask m r) .number ≡ 0
+  pub paints : (colour mask : ℕ) (m : List ℕ) → colour < 65536 → mask < 65536 → Memory (f .rows) m
+      → runCall list (from s colour mask m r) .after .memory ≡ painted f m

@@ -1,0 +1,98 @@
+-- The plan's bytes run: accepted, and what they leave. Assumes nothing.
+use Prim.Native.Nat.{ℕ, _+_, _*_, _<_}
+use mathlib.Core.Path.{_≡_, refl, sym, ap, ap₂, _∙_, subst}
+use mathlib.Core.Bool.{Bool, true, false, cond}
+use mathlib.Core.List.{List, [], _∷_, map, List·Memᴰ}
+use mathlib.Core.Logic.{_≢_}
+use native.Mathlib.Omega.{arith}
+use lib.Dec.{eqb, leb}
+use lib.ListN.{length, getD}
+use lib.Seq.{ext-getD}
+use borrow.Author.Tests.{eqb-true, eqb-false, leb-true, leb-false}
+use Rattle.words.specs.Bit.{bit}
+use Rattle.words.specs.BitLaws.{bit-none}
+use Rattle.words.specs.Word.{merged, covers}
+use Rattle.words.specs.WordLaws.{merged-none, merged-all, covers-both}
+use Rattle.vram.specs.declared.Vram.{Vram}
+use Rattle.vram.specs.declared.Cycle.{Cycle}
+use Rattle.vram.specs.declared.Cycle.the-variants.{LoadColour}
+use Rattle.vram.specs.State.{withColour}
+use Rattle.vram.specs.Board.{Board, board}
+use Rattle.vram.specs.Refusal.{given, refusal}
+use Rattle.vram.specs.RefusalLaws.{Given, rows-fitted, given-done}
+use Rattle.vram.specs.Step.{givenOf, rowsOf, number, step, run}
+use Rattle.vram.specs.CaseLaws.{run-none, run-next, number-is, colour-accepted}
+use Rattle.vram.specs.RuleLaws.{step-given}
+use Rattle.vram.specs.CycleLaws.{colour-load}
+use Rattle.list.specs.Meaning.{bad, Outcome, gives, runCall}
+use Rattle.list.specs.EncodedLaws.{encoded-run}
+use Rattle.planner.specs.Fill.{Fill, inside, blocks, W, B, blockWrite, byWords, byBlocks, usesBlocks, plan}
+use Rattle.planner.specs.FillLaws.{Sound}
+use Rattle.planner.specs.Calls.{listOf}
+use Rattle.planner.specs.Paint.{painted, Wide, Memory, Start}
+use Rattle.planner.specs.PaintLaws.{painted-length, drawn-at}
+use Rattle.planner.specs.PlanPaints.{words-paint, blocks-paint}
+use Rattle.planner.specs.WrittenLaws.{plan-accepted}
+
+-- through a mask of 0 nothing is drawn
+painted-nothing : (f : Fill) (m : List ℕ) → f .mask ≡ 0 → Memory (f .rows) m → painted f m ≡ m
+painted-nothing f m e k =
+    ext-getD 0 (painted f m) m (painted-length f m)
+    (λ a h. drawn-at f (inside f) m a (subst (λ (n : ℕ). a < n) (painted-length f m) h) ∙ go (inside f a) (getD m a 0) (k .words a))
+  where
+    go : (t : Bool) (w : ℕ) → w < 65536 → cond t (merged w (f .colour) (bit (f .mask))) w ≡ w
+    go true w l = merged-none w (f .colour) (bit (f .mask)) l (λ i u. ap (λ (n : ℕ). bit n i) e ∙ bit-none i)
+    go false w l = refl
+
+module _ (f : Fill) (sound : Sound f) (wide : Wide f) (b : Board) (start : Start (f .rows) b) where
+  given-start : given (b .state) (512 * f .rows) (length (b .serial)) ≡ 0
+  given-start =
+      given-done (b .state) (512 * f .rows) (length (b .serial))
+      (record { rule = start .rule; rows = rows-fitted (f .rows) (sound .rows-least) (sound .rows-most); register = start .register })
+
+  given-board : givenOf b ≡ 0
+  given-board = ap (λ (n : ℕ). given (b .state) n (length (b .serial))) (start .memory .size) ∙ given-start
+
+  rows-board : rowsOf b ≡ f .rows
+  rows-board = let e = start .memory .size in omega arith
+
+  -- the colour load
+  inked : Vram
+  inked = withColour (b .state) (f .colour)
+
+  load : step (LoadColour (f .colour) 3) b ≡ board inked (b .memory) (b .serial)
+  unfolding inked
+  load =
+      colour-load b (f .colour) 3 (number-is (LoadColour (f .colour) 3) b given-board ∙ colour-accepted (rowsOf b) (b .state .loaded) (f .colour))
+      ∙ ap (λ (c : ℕ). board (withColour (b .state) c) (b .memory) (b .serial)) (merged-all (b .state .colour) (f .colour) (covers 3) (wide .colour) covers-both)
+
+  given-inked : given inked (512 * f .rows) (length (b .serial)) ≡ 0
+  given-inked =
+      ap (λ (n : ℕ). given inked n (length (b .serial))) (sym (start .memory .size))
+      ∙ sym (ap givenOf load) ∙ step-given (LoadColour (f .colour) 3) b ∙ given-board
+
+  blocks-run : run (byBlocks f) b ≡ board inked (painted f (b .memory)) (b .serial)
+  unfolding inked
+  blocks-run =
+      run-next step (LoadColour (f .colour) 3) (map (blockWrite f) (blocks f)) b
+      ∙ ap (run (map (blockWrite f) (blocks f))) load
+      ∙ blocks-paint f (f .rows) inked (b .serial) given-inked (start .plain) sound refl refl (b .memory) (start .memory)
+
+  abbrev left : Bool → Board
+  left uses = board (withColour (b .state) (cond uses (f .colour) (b .state .colour))) (painted f (b .memory)) (b .serial)
+
+  plan-runs : run (plan f) b ≡ left (usesBlocks f)
+  unfolding plan inked
+  plan-runs = go (eqb (f .mask) 0) (leb (W f) (1 + B f)) refl
+    where
+      go : (t u : Bool) → eqb (f .mask) 0 ≡ t → run (cond t [] (cond u (byWords f) (byBlocks f))) b ≡ left (cond t false (cond u false true))
+      go true u e =
+          run-none step b ∙ ap (λ (m : List ℕ). board (b .state) m (b .serial)) (sym (painted-nothing f (b .memory) (eqb-true (f .mask) 0 e) (start .memory)))
+      go false true e = words-paint f (f .rows) (b .state) (b .serial) given-start (start .plain) sound refl (b .memory) (start .memory)
+      go false false e = blocks-run
+
+  pub list-runs : runCall (listOf f) b ≡ gives (bad 0 0) (left (usesBlocks f))
+  list-runs =
+      encoded-run (plan f) b given-board
+      (λ c m made. ap (λ (n : ℕ). refusal n made c) rows-board ∙ plan-accepted f c m made)
+      ∙ ap (gives (bad 0 0)) plan-runs
