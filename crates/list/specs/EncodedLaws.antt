@@ -1,9 +1,8 @@
 -- Bytes that were written for cycles, as a planner needs them: byte by byte, joined, accepted and run. Assumes nothing.
 use mathlib.Core.Path.{_≡_, refl, sym, ap, ap₂, _∙_}
 use mathlib.Core.Bool.{Bool}
-use mathlib.Core.List.{List, [], _∷_, _++_, map, append-assoc, append-nil, List·Memᴰ, List·Memᴰ·head, List·Memᴰ·tail}
+use mathlib.Core.List.{List, [], _∷_, _++_, map, append-assoc, List·Memᴰ, List·Memᴰ·head, List·Memᴰ·tail}
 use Prim.Native.Nat.{ℕ, _+_, _/_, _%_}
-use lib.ListN.{length, length-append}
 use Rattle.vram.specs.declared.Cycle.{Cycle}
 use Rattle.vram.specs.declared.Cycle.the-variants.{WordWrite, BlockWrite, LoadColour}
 use Rattle.vram.specs.Board.{Board}
@@ -12,7 +11,7 @@ use Rattle.vram.specs.CaseLaws.{tag-word, tag-block, tag-colour}
 use Rattle.vram.specs.Step.{givenOf, rowsOf, run}
 use Rattle.list.specs.declared.Bad.{Bad}
 use Rattle.list.specs.Tags.{lenOf}
-use Rattle.list.specs.Fields.{Field, sizeOf}
+use Rattle.list.specs.Fields.{sizeOf}
 use Rattle.list.specs.Meaning.{numberOf, madeBy, bad, verdict, verdictOf, gives, runCall}
 use Rattle.list.specs.VerdictLaws.{verdict-nil, verdict-good}
 use Rattle.list.specs.CallLaws.{verdict-fields, call-given, call-runs}

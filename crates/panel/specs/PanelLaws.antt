@@ -7,7 +7,7 @@ use native.Mathlib.Omega.{arith}
 use native.Mathlib.Nat.{zero-add}
 use native.Mathlib.Numerals.{add-one}
 use lib.Dec.{eqb}
-use lib.ListN.{length, getD, set, take, drop, length-append, length-take, length-drop, length-replicate}
+use lib.ListN.{length, getD, set, take, drop, length-append, length-take, length-replicate}
 use lib.Seq.{take-suc, drop-cons, drop-drop, set-at, take-at, drop-at}
 use Rattle.vram.specs.declared.Vram.{Vram}
 use Rattle.vram.specs.Serial.{half, clocks, words}

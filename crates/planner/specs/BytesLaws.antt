@@ -1,17 +1,15 @@
 -- Laws of the stored bytes: they are the bytes of the plan's cycles. Assumes nothing.
-use Prim.Native.Nat.{ℕ, zero, suc, _+_, _-_, _*_, _/_, _%_, _≤_, _<_}
-use mathlib.Core.Path.{_≡_, refl, sym, ap, ap₂, _∙_, subst}
-use mathlib.Core.Bool.{Bool, true, false, cond}
-use mathlib.Core.List.{List, [], _∷_, _++_, append-assoc, append-nil}
+use Prim.Native.Nat.{ℕ, suc, _+_, _-_, _*_, _≤_, _<_}
+use mathlib.Core.Path.{_≡_, refl, sym, ap, ap₂, _∙_}
+use mathlib.Core.List.{List, [], _++_}
 use native.Mathlib.Omega.{arith}
-use native.Mathlib.Nat.{add-zero, zero-add, zero-mul, suc-mul}
-use native.Mathlib.Numerals.{add-one}
-use lib.ListN.{length, length-append}
+use native.Mathlib.Nat.{zero-add}
+use lib.ListN.{length}
 use lib.Seq.{sets}
 use borrow.Author.Tests.{eq-eqb, ne-eqb}
 use Rattle.numbers.specs.BufferLaws.{sets-append, sets-apart}
 use Rattle.planner.specs.SeriesLaws.{series-cong, series-shift, series-append, series-one, series-length}
-use Rattle.planner.specs.Bytes.{series, placeOf, columnsAt, placeBytes, tagBytes, restBytes, writeAt, loadBytes, rowBytes, wordRows, blockRow, blockRows}
+use Rattle.planner.specs.Bytes.{series, placeOf, columnsAt, placeBytes, tagBytes, restBytes, writeAt, rowBytes, wordRows, blockRow, blockRows}
 
 -- ---- stores: one more after n
 

@@ -7,14 +7,14 @@ use mathlib.Core.Logic.{_≢_}
 use native.Mathlib.Omega.{arith}
 use native.Mathlib.Nat.{mul-zero, zero-mul}
 use lib.Dec.{eqb, leb}
-use lib.ListN.{length, length-append, length-map}
+use lib.ListN.{length, length-map}
 use lib.Seq.{sets}
 use borrow.Author.Tests.{eqb-true, eqb-false, leb-true, le-leb, lt-leb}
-use Rattle.numbers.specs.Refuse.{refuse, firstOf, leaves}
-use Rattle.numbers.specs.RefuseLaws.{refuse-zero, firstOf-zero, firstOf-first, firstOf-later, leaves-made, leaves-before}
+use Rattle.numbers.specs.Refuse.{refuse, firstOf}
+use Rattle.numbers.specs.RefuseLaws.{refuse-zero, firstOf-first, firstOf-later, leaves-before}
 use Rattle.numbers.specs.Between.{both}
 use Rattle.numbers.specs.Buffer.{over}
-use Rattle.numbers.specs.BufferLaws.{sets-append, over-sets}
+use Rattle.numbers.specs.BufferLaws.{over-sets}
 use Rattle.list.specs.Encode.{encodeAll}
 use Rattle.list.specs.EncodedLaws.{encode-none}
 use Rattle.planner.specs.declared.Filled.{Filled}

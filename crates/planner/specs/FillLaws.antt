@@ -1,17 +1,16 @@
 -- Laws of the rectangle: words covered and blocks touched, row by row and in closed form. Assumes nothing.
 use Prim.Native.Nat.{ℕ, zero, suc, _+_, _-_, _*_, _/_, _%_, _≤_, _<_, max, min}
 use mathlib.Core.Path.{_≡_, refl, sym, ap, ap₂, _∙_}
-use mathlib.Core.Bool.{Bool, true, false, _&&_, _||_, cond, true≢false}
-use mathlib.Core.List.{List, [], _∷_, map}
+use mathlib.Core.Bool.{Bool, true, false, _&&_, _||_}
+use mathlib.Core.List.{[], _∷_, map}
 use mathlib.Core.Logic.{_≢_}
 use native.Mathlib.Omega.{arith}
-use native.Mathlib.Nat.{mul-zero, mul-one}
-use lib.Dec.{eqb, leb}
+use native.Mathlib.Nat.{mul-one}
+use lib.Dec.{leb}
 use lib.ListN.{length, length-map}
-use borrow.Author.Tests.{eq-eqb, ne-eqb, eqb-true, eqb-false, leb-true, leb-false, le-leb, lt-leb}
-use Rattle.numbers.specs.Between.{between, both, same-truth, between-in, between-says, between-out}
-use Rattle.vram.specs.declared.Cycle.{Cycle}
-use Rattle.planner.specs.Fill.{Fill, inside, touched, picked, words, blocks, W, B, wordWrite, blockWrite, byWords, byBlocks, plan}
+use borrow.Author.Tests.{eq-eqb, ne-eqb, leb-true, leb-false, le-leb, lt-leb}
+use Rattle.numbers.specs.Between.{between, both, same-truth, between-in, between-says}
+use Rattle.planner.specs.Fill.{Fill, inside, touched, words, blocks, W, B, wordWrite, blockWrite, byWords, byBlocks, plan}
 use Rattle.planner.specs.Bytes.{series}
 use Rattle.planner.specs.SeriesLaws.{all, series-length, picked-grid}
 

@@ -1,31 +1,25 @@
 -- From bytes to the bound: the board on which every bit is wrong, and what an accepted list does there. Assumes nothing.
-use Prim.Native.Nat.{ℕ, suc, _+_, _*_, _/_, _≤_, _<_, _^_, zero-le, min}
-use mathlib.Core.Path.{_≡_, refl, sym, ap, _∙_, subst}
+use Prim.Native.Nat.{ℕ, suc, _+_, _*_, _≤_, _<_, min}
+use mathlib.Core.Path.{_≡_, sym, ap, _∙_, subst}
 use mathlib.Core.Bool.{Bool, true, false, not, _&&_, cond, true≢false}
 use mathlib.Core.List.{List}
 use mathlib.Core.Logic.{_≢_}
 use native.Mathlib.Omega.{arith}
-use native.Mathlib.Nat.{le-trans}
 use native.Mathlib.Decide.{decLe}
-use lib.Dec.{eqb}
 use lib.ListN.{length, getD, replicate, length-replicate, getD-replicate, List·getD-eq-default}
-use borrow.Author.Tests.{eqb-true, eqb-false}
 use Rattle.words.specs.Bit.{bit, ofBits}
 use Rattle.words.specs.BitLaws.{bit-ofBits, ofBits-lt, some-bit}
 use Rattle.vram.specs.declared.Vram.{Vram}
 use Rattle.vram.specs.Board.{Board}
 use Rattle.vram.specs.Step.{run}
-use Rattle.list.specs.Meaning.{cyclesOf, countOf, runCall}
+use Rattle.list.specs.Meaning.{cyclesOf, countOf}
 use Rattle.list.specs.CountLaws.{count-cycles}
 use Rattle.list.specs.CallLaws.{call-runs}
 use Rattle.list.specs.JoinLaws.{call-readable}
-use Rattle.planner.specs.Fill.{Fill, inside, W, B, plan}
-use Rattle.planner.specs.FillLaws.{Sound, Inside, inside-says, plan-nothing, plan-length}
-use Rattle.planner.specs.Calls.{fillCall}
-use Rattle.planner.specs.CallLaws.{asked-sound}
+use Rattle.planner.specs.Fill.{Fill, inside, W, B}
+use Rattle.planner.specs.FillLaws.{Sound, inside-says}
 use Rattle.planner.specs.Paint.{painted, Wide, Memory, from, Paints}
 use Rattle.planner.specs.PaintLaws.{painted-bit}
-use Rattle.planner.specs.WrittenLaws.{accepted-asked, accepted-cycles}
 use Rattle.planner.specs.Bound.{bound}
 
 opposite : (t : Bool) → not t ≢ t
@@ -74,7 +68,7 @@ module _ (f : Fill) (sound : Sound f) (wide : Wide f) (some : f .mask ≢ 0) (s 
   cycles = count-cycles list (call-readable list here (paints .accepted wrong 0 words wrong-lt (omega arith) memory))
 
   -- one bit of M is enough
-  least : min (W f) (1 + B f) ≤ countOf list
+  pub least : min (W f) (1 + B f) ≤ countOf list
   unfolding wrong
   least =
       let p = some-bit 16 (f .mask) (wide .mask) (omega (arith, some)) in
@@ -93,13 +87,3 @@ module _ (f : Fill) (sound : Sound f) (wide : Wide f) (some : f .mask ≢ 0) (s 
     where
       placed : (a : ℕ) → inside f a ≡ true → a < 512 * f .rows
       placed a h = let q = inside-says f a h .row-to in omega (arith, sound .row-end)
-
-pub plan-least : (f : Fill) (out : List ℕ) → Wide f → fillCall f out .answer .number ≡ 0
-    → (s : Vram) (r list : List ℕ) → Paints f s r list → fillCall f out .answer .cycles ≤ countOf list
-plan-least f out wide z s r list paints = subst (λ (n : ℕ). n ≤ countOf list) (sym (accepted-cycles f out z)) (go (eqb (f .mask) 0) refl)
-  where
-    go : (t : Bool) → eqb (f .mask) 0 ≡ t → length (plan f) ≤ countOf list
-    go true e = subst (λ (n : ℕ). n ≤ countOf list) (sym (ap length (plan-nothing f (eqb-true (f .mask) 0 e)))) zero-le
-    go false e =
-        let n = eqb-false (f .mask) 0 e in
-        subst (λ (k : ℕ). k ≤ countOf list) (sym (plan-length f n)) (least f (asked-sound f (accepted-asked f out z)) wide n s r list paints)

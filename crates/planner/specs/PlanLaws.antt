@@ -6,7 +6,7 @@ use mathlib.Core.List.{List, [], _∷_, _++_, map, map-append, append-nil}
 use native.Mathlib.Omega.{arith}
 use native.Mathlib.Nat.{add-zero}
 use lib.Dec.{eqb}
-use lib.ListN.{length, length-append}
+use lib.ListN.{length}
 use borrow.Author.Tests.{eqb-true, eqb-false}
 use Rattle.numbers.specs.Between.{between, between-in}
 use Rattle.words.specs.Bit.{ofBits}
@@ -15,7 +15,7 @@ use Rattle.vram.specs.declared.Cycle.{Cycle}
 use Rattle.vram.specs.declared.Cycle.the-variants.{LoadColour}
 use Rattle.list.specs.Encode.{encode, encodeAll}
 use Rattle.list.specs.EncodedLaws.{write, encode-word, encode-block, encode-colour, encode-none, encode-first, encode-append}
-use Rattle.planner.specs.Fill.{Fill, inside, words, blocks, W, B, wordWrite, columnsOf, blockWrite, byWords, byBlocks}
+use Rattle.planner.specs.Fill.{Fill, inside, blocks, wordWrite, columnsOf, blockWrite, byWords, byBlocks}
 use Rattle.planner.specs.FillLaws.{Sound, inside-at, words-rows, blocks-rows, across}
 use Rattle.planner.specs.Bytes.{series, placeOf, writeAt, loadBytes, rowBytes, wordRows, columnsIn, columnsAt, blockRow, blockRows}
 use Rattle.planner.specs.SeriesLaws.{all, series-cong, series-shift, series-length, series-through}

@@ -2,32 +2,28 @@
 use Prim.Native.Nat.{ℕ, zero, suc, _+_, _*_, _/_, _%_, _≤_, _<_}
 use mathlib.Core.Path.{_≡_, refl, sym, ap, ap₂, _∙_, subst}
 use mathlib.Core.Bool.{Bool, true, false, _&&_, _||_, cond}
-use mathlib.Core.List.{List, [], _∷_, map}
+use mathlib.Core.List.{List, _∷_, map}
 use native.Mathlib.Omega.{arith}
-use lib.Dec.{eqb, leb}
+use lib.Dec.{eqb}
 use lib.ListN.{length, getD}
 use lib.Seq.{ext-getD}
-use borrow.Author.Tests.{eqb-true, eqb-false, eq-eqb}
-use Rattle.numbers.specs.Between.{between, same-truth, both, between-in, between-says, between-out}
+use borrow.Author.Tests.{eqb-true, eqb-false}
+use Rattle.numbers.specs.Between.{between, same-truth, between-in, between-says, between-out}
 use Rattle.words.specs.Bit.{bit}
-use Rattle.words.specs.Word.{merged, covers, lets}
-use Rattle.words.specs.WordLaws.{merged-cong, merged-none, merged-all, covers-both, lets-bit}
-use Rattle.words.specs.BitLaws.{bit-none}
+use Rattle.words.specs.Word.{merged, lets}
+use Rattle.words.specs.WordLaws.{merged-cong, merged-none, lets-bit}
 use Rattle.vram.specs.declared.Vram.{Vram}
 use Rattle.vram.specs.declared.Cycle.{Cycle}
-use Rattle.vram.specs.declared.Cycle.the-variants.{WordWrite, BlockWrite, LoadColour}
-use Rattle.vram.specs.State.{withColour}
-use Rattle.vram.specs.Board.{Board, board, allowed}
+use Rattle.vram.specs.Board.{board, allowed}
 use Rattle.vram.specs.Refusal.{given}
 use Rattle.vram.specs.Kinds.{tagOf}
 use Rattle.vram.specs.Step.{givenOf, rowsOf, number, step, run}
-use Rattle.vram.specs.StepLaws.{step-acts}
-use Rattle.vram.specs.CaseLaws.{run-none, run-next, number-is, word-accepted, block-accepted, colour-accepted, tag-word, tag-block}
+use Rattle.vram.specs.CaseLaws.{run-none, run-next, number-is, word-accepted, block-accepted, tag-word, tag-block}
 use Rattle.vram.specs.KeptLaws.{only-memory}
-use Rattle.vram.specs.RuleLaws.{step-sized, step-given}
-use Rattle.vram.specs.CycleLaws.{word-write-at, block-write-at, colour-load, allowed-given}
-use Rattle.planner.specs.Fill.{Fill, inside, touched, picked, words, blocks, W, B, wordWrite, columnsOf, blockWrite, byWords, byBlocks, usesBlocks, plan}
-use Rattle.planner.specs.FillLaws.{Sound, Inside, inside-says, touched-in}
+use Rattle.vram.specs.RuleLaws.{step-sized}
+use Rattle.vram.specs.CycleLaws.{word-write-at, block-write-at, allowed-given}
+use Rattle.planner.specs.Fill.{Fill, inside, touched, picked, words, blocks, wordWrite, columnsOf, blockWrite, byWords}
+use Rattle.planner.specs.FillLaws.{Sound, inside-says, touched-in}
 use Rattle.planner.specs.Paint.{painted, Memory}
 use Rattle.planner.specs.PaintLaws.{drawn, drawn-at, drawn-cong, drawn-none, drawn-twice, drawn-memory, mapAt-length}
 

@@ -1,30 +1,28 @@
 -- The plan's bytes run: accepted, and what they leave. Assumes nothing.
 use Prim.Native.Nat.{ℕ, _+_, _*_, _<_}
-use mathlib.Core.Path.{_≡_, refl, sym, ap, ap₂, _∙_, subst}
+use mathlib.Core.Path.{_≡_, refl, sym, ap, _∙_, subst}
 use mathlib.Core.Bool.{Bool, true, false, cond}
-use mathlib.Core.List.{List, [], _∷_, map, List·Memᴰ}
-use mathlib.Core.Logic.{_≢_}
+use mathlib.Core.List.{List, [], map}
 use native.Mathlib.Omega.{arith}
 use lib.Dec.{eqb, leb}
 use lib.ListN.{length, getD}
 use lib.Seq.{ext-getD}
-use borrow.Author.Tests.{eqb-true, eqb-false, leb-true, leb-false}
+use borrow.Author.Tests.{eqb-true}
 use Rattle.words.specs.Bit.{bit}
 use Rattle.words.specs.BitLaws.{bit-none}
 use Rattle.words.specs.Word.{merged, covers}
 use Rattle.words.specs.WordLaws.{merged-none, merged-all, covers-both}
 use Rattle.vram.specs.declared.Vram.{Vram}
-use Rattle.vram.specs.declared.Cycle.{Cycle}
 use Rattle.vram.specs.declared.Cycle.the-variants.{LoadColour}
 use Rattle.vram.specs.State.{withColour}
 use Rattle.vram.specs.Board.{Board, board}
 use Rattle.vram.specs.Refusal.{given, refusal}
-use Rattle.vram.specs.RefusalLaws.{Given, rows-fitted, given-done}
-use Rattle.vram.specs.Step.{givenOf, rowsOf, number, step, run}
+use Rattle.vram.specs.RefusalLaws.{rows-fitted, given-done}
+use Rattle.vram.specs.Step.{givenOf, rowsOf, step, run}
 use Rattle.vram.specs.CaseLaws.{run-none, run-next, number-is, colour-accepted}
 use Rattle.vram.specs.RuleLaws.{step-given}
 use Rattle.vram.specs.CycleLaws.{colour-load}
-use Rattle.list.specs.Meaning.{bad, Outcome, gives, runCall}
+use Rattle.list.specs.Meaning.{bad, gives, runCall}
 use Rattle.list.specs.EncodedLaws.{encoded-run}
 use Rattle.planner.specs.Fill.{Fill, inside, blocks, W, B, blockWrite, byWords, byBlocks, usesBlocks, plan}
 use Rattle.planner.specs.FillLaws.{Sound}

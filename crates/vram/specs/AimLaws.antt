@@ -1,10 +1,10 @@
 -- A bit that is wrong stays wrong under every cycle that does not aim at it. Nothing is asked of the cycle: a refused one is among
 -- them. Assumes nothing.
-use mathlib.Core.Path.{_≡_, refl, sym, ap, _∙_}
+use mathlib.Core.Path.{_≡_, refl, ap, _∙_}
 use mathlib.Core.Bool.{Bool, true, false, _&&_, cond}
-use mathlib.Core.List.{List, [], _∷_, List·Memᴰ, List·Memᴰ·head}
+use mathlib.Core.List.{List, List·Memᴰ, List·Memᴰ·head}
 use mathlib.Core.Logic.{_⊎_, inl, inr, ⊎-map}
-use Prim.Native.Nat.{ℕ, _+_, _-_, _*_, _/_, _≤_, _<_}
+use Prim.Native.Nat.{ℕ, _+_, _-_, _/_, _≤_, _<_}
 use native.Mathlib.Omega.{arith}
 use lib.Dec.{lit≤}
 use lib.ListN.{length, getD}
@@ -16,7 +16,7 @@ use Rattle.vram.specs.MemoryLaws.{among}
 use Rattle.vram.specs.Board.{Board, effect}
 use Rattle.vram.specs.Step.{step}
 use Rattle.vram.specs.StepLaws.{step-holds}
-use Rattle.vram.specs.Writes.{Writes, base, writes, written, effect-writes, written-bit}
+use Rattle.vram.specs.Writes.{base, writes, effect-writes, written-bit}
 use Rattle.vram.specs.Aims.{wordsOf, blocksOf, coloursOf}
 
 -- ---- a cycle aims at one thing at most

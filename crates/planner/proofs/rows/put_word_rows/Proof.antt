@@ -7,7 +7,7 @@ use native.Mathlib.Nat.{mul-le-mul-right}
 use native.Mathlib.Omega.{arith}
 use lib.ListN.{length}
 use lib.Seq.{sets, length-sets}
-use Rattle.planner.specs.Bytes.{placeOf, rowBytes, wordRows}
+use Rattle.planner.specs.Bytes.{rowBytes, wordRows}
 use Rattle.planner.specs.BytesLaws.{word-rows-none, word-rows-more}
 use Rattle.planner.proofs.rows.put_word_rows.Statement.{statement}
 use Rattle.planner.proofs.rows.put_word_rows.Tie as tie
