@@ -8,7 +8,8 @@ use native.Mathlib.Omega.{arith}
 use lib.Dec.{eqb, leb}
 use borrow.Author.Tests.{leb-true, le-leb, lt-leb, ne-eqb}
 use Rattle.numbers.specs.Between.{both}
-use Rattle.vram.specs.Refusal.{writeRefusal, loadRefusal, fullRefusal, splitRefusal, refusal}
+use Rattle.refusals.specs.Refusal.{writeRefusal, loadRefusal, fullRefusal, splitRefusal}
+use Rattle.vram.specs.Refusal.{refusal}
 use Rattle.vram.specs.Kinds.{tagOf, loads}
 use Rattle.list.specs.Tags.{byte, word, known, lenOf, cycleOf}
 use Rattle.vram.specs.CaseLaws.{refusal-word, refusal-block, refusal-colour, refusal-mask, refusal-reset, refusal-full, refusal-split, tag-word, tag-block, tag-colour, tag-mask, tag-reset, tag-full, tag-split, loads-tag}

@@ -2,7 +2,8 @@
 ghost use mathlib.Core.Path.{_≡_};
 ghost use Prim.Native.Nat.{_+_, _<_};
 ghost use lib.ListN.{length};
-ghost use Rattle.vram.specs.Refusal.{writeRefusal, loadRefusal, fullRefusal, splitRefusal, refusal};
+ghost use Rattle.refusals.specs.Refusal.{writeRefusal, loadRefusal, fullRefusal, splitRefusal};
+ghost use Rattle.vram.specs.Refusal.{refusal};
 ghost use Rattle.list.specs.Tags.{byte, word, lenOf, cycleOf};
 ghost use Rattle.list.specs.Fields.{fieldOf, fields};
 ghost use Rattle.list.specs.Meaning.{numberOf, verdict};
@@ -10,10 +11,10 @@ use crate::Bad;
 use crate::fields::body_length;
 use crate::fields::whole;
 use crate::fields::word_at;
-use vram::refusal::full_refusal;
-use vram::refusal::load_refusal;
-use vram::refusal::split_refusal;
-use vram::refusal::write_refusal;
+use refusals::full_refusal;
+use refusals::load_refusal;
+use refusals::split_refusal;
+use refusals::write_refusal;
 
 fn write_number(body: &[u8], rows: usize) -> u32
     requires { ⌜ length (now body) ≡ 10 ⌝ }

@@ -17,7 +17,8 @@ use Rattle.vram.specs.declared.Cycle.the-variants.{LoadColour}
 use Rattle.vram.specs.State.{withColour}
 use Rattle.vram.specs.Board.{Board, board}
 use Rattle.vram.specs.Refusal.{given, refusal}
-use Rattle.vram.specs.RefusalLaws.{rows-fitted, given-done}
+use Rattle.refusals.specs.RefusalLaws.{rows-fitted}
+use Rattle.vram.specs.RefusalLaws.{given-done}
 use Rattle.vram.specs.Step.{givenOf, rowsOf, step, run}
 use Rattle.vram.specs.CaseLaws.{run-none, run-next, number-is, colour-accepted}
 use Rattle.vram.specs.RuleLaws.{step-given}

@@ -11,7 +11,7 @@ use contract.Monad.{Fun, fact}
 use contract.Lifetimes.{Lfts}
 use denote.Triple.Entry.{Args, Res}
 use denote.Triple.Clauses.{AtExit}
-use Rattle.vram.specs.Once.{Fresh, Allows, PerformsCycle, ReadsWord, ClocksOnce, ClocksOften, LeadsThrough, RefusesGiven, RefusesCycle, RefusesWrite, RefusesLoad, RefusesFull, RefusesSplit}
+use Rattle.vram.specs.Once.{Fresh, Allows, PerformsCycle, ReadsWord, ClocksOnce, ClocksOften, LeadsThrough, RefusesGiven, RefusesCycle}
 use Rattle.vram.proofs.Vram.fresh as fresh
 use Rattle.vram.proofs.Vram.ruled as ruled
 use Rattle.vram.proofs.Vram.cycle as cycle
@@ -21,10 +21,6 @@ use Rattle.vram.proofs.Vram.clocks as clocks
 use Rattle.vram.proofs.Vram.through as through
 use Rattle.vram.proofs.Vram.given as given
 use Rattle.vram.proofs.Cycle.refusal as refusal
-use Rattle.vram.proofs.refusal.write_refusal as write-refusal
-use Rattle.vram.proofs.refusal.load_refusal as load-refusal
-use Rattle.vram.proofs.refusal.full_refusal as full-refusal
-use Rattle.vram.proofs.refusal.split_refusal as split-refusal
 
 module _ {M : Type 1} (𝓤 : URA M) (H : Heap 𝓤) (A : Atoms 𝓤) (mem : Memory → SProp 𝓤) (run : Routine → Fun 𝓤) where
   module _ (κs : Lfts 0) (a : Args fresh.signature κs) where
@@ -97,35 +93,3 @@ module _ {M : Type 1} (𝓤 : URA M) (H : Heap 𝓤) (A : Atoms 𝓤) (mem : Mem
     refusal-says : (r : Res refusal.signature κs) (e : AtExit refusal.ended κs)
         → refusal.clauses 𝓤 H A mem run κs a .ensures tt r e ≡ fact 𝓤 (RefusesCycle (a .0, a .1 .0, a .1 .1 .0) r)
     refusal-says r e = refl
-
-  module _ (κs : Lfts 0) (a : Args write-refusal.signature κs) where
-    write-refusal-asks : write-refusal.clauses 𝓤 H A mem run κs a .requires tt ≡ emp 𝓤
-    write-refusal-asks = refl
-
-    write-refusal-says : (r : Res write-refusal.signature κs) (e : AtExit write-refusal.ended κs)
-        → write-refusal.clauses 𝓤 H A mem run κs a .ensures tt r e ≡ fact 𝓤 (RefusesWrite (a .0, a .1 .0, a .1 .1 .0, a .1 .1 .1 .0, a .1 .1 .1 .1 .0, a .1 .1 .1 .1 .1 .0) r)
-    write-refusal-says r e = refl
-
-  module _ (κs : Lfts 0) (a : Args load-refusal.signature κs) where
-    load-refusal-asks : load-refusal.clauses 𝓤 H A mem run κs a .requires tt ≡ emp 𝓤
-    load-refusal-asks = refl
-
-    load-refusal-says : (r : Res load-refusal.signature κs) (e : AtExit load-refusal.ended κs)
-        → load-refusal.clauses 𝓤 H A mem run κs a .ensures tt r e ≡ fact 𝓤 (RefusesLoad (a .0) r)
-    load-refusal-says r e = refl
-
-  module _ (κs : Lfts 0) (a : Args full-refusal.signature κs) where
-    full-refusal-asks : full-refusal.clauses 𝓤 H A mem run κs a .requires tt ≡ emp 𝓤
-    full-refusal-asks = refl
-
-    full-refusal-says : (r : Res full-refusal.signature κs) (e : AtExit full-refusal.ended κs)
-        → full-refusal.clauses 𝓤 H A mem run κs a .ensures tt r e ≡ fact 𝓤 (RefusesFull (a .0, a .1 .0, a .1 .1 .0) r)
-    full-refusal-says r e = refl
-
-  module _ (κs : Lfts 0) (a : Args split-refusal.signature κs) where
-    split-refusal-asks : split-refusal.clauses 𝓤 H A mem run κs a .requires tt ≡ emp 𝓤
-    split-refusal-asks = refl
-
-    split-refusal-says : (r : Res split-refusal.signature κs) (e : AtExit split-refusal.ended κs)
-        → split-refusal.clauses 𝓤 H A mem run κs a .ensures tt r e ≡ fact 𝓤 (RefusesSplit (a .0, a .1 .0, a .1 .1 .0, a .1 .1 .1 .0, a .1 .1 .1 .1 .0) r)
-    split-refusal-says r e = refl

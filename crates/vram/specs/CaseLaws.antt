@@ -1,18 +1,17 @@
 -- The definitions case by case, so that other crates need not open them. Assumes nothing.
 use mathlib.Core.Path.{_≡_, refl, ap, _∙_}
-use mathlib.Core.Bool.{Bool, true, false, _&&_, _||_}
+use mathlib.Core.Bool.{Bool, true, false, _||_}
 use mathlib.Core.List.{List, [], _∷_}
-use mathlib.Core.Logic.{_≢_, _⊎_, inl, inr, ⊎-elim}
+use mathlib.Core.Logic.{_≢_, inl, ⊎-elim}
 use Prim.Native.Nat.{ℕ, _/_, _≤_, _<_}
-use native.Mathlib.Omega.{arith}
-use lib.Dec.{eqb, leb, ltb}
-use borrow.Author.Tests.{lt-ltb, le-leb}
-use Rattle.numbers.specs.Refuse.{refuse}
+use lib.Dec.{eqb}
 use Rattle.numbers.specs.RefuseLaws.{firstOf-later}
 use Rattle.vram.specs.declared.Cycle.{Cycle}
 use Rattle.vram.specs.declared.Cycle.the-variants.{WordWrite, BlockWrite, LoadColour, LoadMask, ResetRefresh, FullTransfer, SplitTransfer}
 use Rattle.vram.specs.Board.{Board}
-use Rattle.vram.specs.Refusal.{strobesOk, maskingOk, writeRefusal, loadRefusal, fullRefusal, splitRefusal, refusal}
+use Rattle.refusals.specs.Refusal.{writeRefusal, loadRefusal, fullRefusal, splitRefusal}
+use Rattle.vram.specs.Refusal.{refusal}
+use Rattle.refusals.specs.RefusalLaws.{masked-write, Range, write-among, load-among, full-among, split-among}
 use Rattle.vram.specs.Step.{givenOf, rowsOf, number, Engine, runBy, step, run}
 use Rattle.vram.specs.StepLaws.{run-holds}
 use Rattle.vram.specs.RuleLaws.{step-sized, run-sized, step-given}
@@ -87,10 +86,6 @@ module _ (rows : ℕ) (made : Bool) where
 
 -- a write that is masked, with both strobes, in the rows fitted is not refused, nor is a colour load with both strobes
 
-masked-write : (rows row column mask : ℕ) → row < rows → column ≤ 511 → writeRefusal rows row column 1 mask 3 ≡ 0
-unfolding writeRefusal
-masked-write rows row column mask h k = rw (lt-ltb row rows h, le-leb column 511 k)
-
 module _ (rows : ℕ) (made : Bool) where
   pub word-accepted : (row column word mask : ℕ) → row < rows → column ≤ 511 → refusal rows made (WordWrite row column word 1 mask 3) ≡ 0
   word-accepted row column word mask h k = refusal-word rows made row column word 1 mask 3 ∙ masked-write rows row column mask h k
@@ -103,34 +98,6 @@ module _ (rows : ℕ) (made : Bool) where
   colour-accepted word = refusal-colour rows made word 3
 
 -- what refuses a cycle is 5 to 10
-
-abbrev Range : ℕ → Type 0
-Range n = (n ≡ 0) ⊎ ((5 ≤ n) × (n ≤ 10))
-
-within : (holds : Bool) (n later : ℕ) → 5 ≤ n → n ≤ 10 → Range later → Range (refuse holds n later)
-within true n later p q r = r
-within false n later p q r = inr (p, q)
-
-write-among : (rows row column masking mask strobes : ℕ) → Range (writeRefusal rows row column masking mask strobes)
-unfolding writeRefusal
-write-among rows row column masking mask strobes =
-    within (ltb row rows) 5 _ (omega arith) (omega arith)
-    (within (leb column 511) 6 _ (omega arith) (omega arith)
-    (within (strobesOk strobes) 7 _ (omega arith) (omega arith) (within (maskingOk masking mask) 8 0 (omega arith) (omega arith) (inl refl))))
-
-load-among : (strobes : ℕ) → Range (loadRefusal strobes)
-unfolding loadRefusal
-load-among strobes = within (strobesOk strobes) 7 0 (omega arith) (omega arith) (inl refl)
-
-full-among : (rows row half : ℕ) → Range (fullRefusal rows row half)
-unfolding fullRefusal
-full-among rows row half = within (ltb row rows) 5 _ (omega arith) (omega arith) (within (leb half 1) 9 0 (omega arith) (omega arith) (inl refl))
-
-split-among : (rows : ℕ) (made : Bool) (row half tap : ℕ) → Range (splitRefusal rows made row half tap)
-unfolding splitRefusal
-split-among rows made row half tap =
-    within (ltb row rows) 5 _ (omega arith) (omega arith)
-    (within (leb half 1 && leb tap 127) 9 _ (omega arith) (omega arith) (within made 10 0 (omega arith) (omega arith) (inl refl)))
 
 refusal-among : (rows : ℕ) (made : Bool) (c : Cycle) → Range (refusal rows made c)
 unfolding refusal

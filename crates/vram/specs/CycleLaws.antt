@@ -18,7 +18,7 @@ use Rattle.vram.specs.declared.Cycle.the-variants.{WordWrite, BlockWrite
 use Rattle.vram.specs.State.{withColour}
 use Rattle.vram.specs.Board.{Board, board, allowed, effect}
 use Rattle.vram.specs.Refusal.{refusal}
-use Rattle.vram.specs.RefusalLaws.{Placed, write-zero, word-within, block-within}
+use Rattle.refusals.specs.RefusalLaws.{Placed, write-zero, word-within, block-within}
 use Rattle.vram.specs.MemoryLaws.{among, among-one}
 use Rattle.vram.specs.Step.{rowsOf, number, step}
 use Rattle.vram.specs.StepLaws.{number-zero, step-acts}

@@ -1,8 +1,9 @@
 -- What is refused: document 01, "Numbers given back". The lowest number wins. Assumes nothing.
-use Prim.Native.Nat.{ℕ, _/_, _%_}
-use mathlib.Core.Bool.{Bool, _&&_, _||_}
-use lib.Dec.{eqb, leb, ltb}
+use Prim.Native.Nat.{ℕ, _/_}
+use mathlib.Core.Bool.{Bool}
+use lib.Dec.{eqb}
 use Rattle.numbers.specs.Refuse.{refuse}
+use Rattle.refusals.specs.Refusal.{fitted, placed, writeRefusal, loadRefusal, fullRefusal, splitRefusal}
 use Rattle.vram.specs.declared.Vram.{Vram}
 use Rattle.vram.specs.declared.Cycle.{Cycle}
 use Rattle.vram.specs.declared.Cycle.the-variants.{WordWrite, BlockWrite, LoadColour, LoadMask, ResetRefresh, FullTransfer, SplitTransfer}
@@ -10,36 +11,10 @@ use Rattle.vram.specs.State.{ruled}
 
 -- ---- 1 to 3: the state and the lengths given to a call
 
--- 512 words to a row, 1 to 512 rows
-abbrev pub fitted : ℕ → Bool
-fitted words = (leb 512 words && leb words 262144) && eqb (words % 512) 0
-
 unfoldable pub given : Vram → ℕ → ℕ → ℕ
 given s words serial = refuse (ruled s) 1 (refuse (fitted words) 2 (refuse (eqb serial 256) 3 0))
 
 -- ---- 5 to 10: a cycle, for the rows fitted and whether a full transfer has been made
-
-abbrev pub strobesOk : ℕ → Bool
-strobesOk strobes = leb 1 strobes && leb strobes 3
-
--- plain (0) with no mask, or masked (1)
-abbrev pub maskingOk : ℕ → ℕ → Bool
-maskingOk masking mask = (eqb masking 0 && eqb mask 0) || eqb masking 1
-
-abbrev pub placed : ℕ → ℕ → ℕ → ℕ → ℕ → ℕ
-placed rows row column strobes later = refuse (ltb row rows) 5 (refuse (leb column 511) 6 (refuse (strobesOk strobes) 7 later))
-
-unfoldable pub writeRefusal : ℕ → ℕ → ℕ → ℕ → ℕ → ℕ → ℕ
-writeRefusal rows row column masking mask strobes = placed rows row column strobes (refuse (maskingOk masking mask) 8 0)
-
-unfoldable pub loadRefusal : ℕ → ℕ
-loadRefusal strobes = refuse (strobesOk strobes) 7 0
-
-unfoldable pub fullRefusal : ℕ → ℕ → ℕ → ℕ
-fullRefusal rows row half = refuse (ltb row rows) 5 (refuse (leb half 1) 9 0)
-
-unfoldable pub splitRefusal : ℕ → Bool → ℕ → ℕ → ℕ → ℕ
-splitRefusal rows loaded row half tap = refuse (ltb row rows) 5 (refuse (leb half 1 && leb tap 127) 9 (refuse loaded 10 0))
 
 unfoldable pub refusal : ℕ → Bool → Cycle → ℕ
 refusal rows loaded (WordWrite row column word masking mask strobes) = writeRefusal rows row column masking mask strobes

@@ -19,7 +19,8 @@ use Rattle.vram.specs.Memory.{puts}
 use Rattle.vram.specs.MemoryLaws.{copied-length}
 use Rattle.vram.specs.Board.{Board, effect}
 use Rattle.vram.specs.Refusal.{refusal}
-use Rattle.vram.specs.RefusalLaws.{given-zero, given-rule, full-zero, split-zero, transfer-within}
+use Rattle.refusals.specs.RefusalLaws.{full-zero, split-zero, transfer-within}
+use Rattle.vram.specs.RefusalLaws.{given-zero, given-rule}
 use Rattle.vram.specs.Step.{givenOf, rowsOf, number, step, run}
 use Rattle.vram.specs.StepLaws.{number-zero, step-holds, run-holds}
 use Rattle.vram.specs.Kinds.{names}

@@ -11,7 +11,8 @@ use Rattle.vram.specs.declared.Cycle.the-variants.{BlockWrite, LoadColou
 use Rattle.vram.specs.State.{fresh, ruled}
 use Rattle.vram.specs.Memory.{put, puts}
 use Rattle.vram.specs.Board.{board, effect}
-use Rattle.vram.specs.Refusal.{given, writeRefusal, loadRefusal, refusal}
+use Rattle.refusals.specs.Refusal.{writeRefusal, loadRefusal}
+use Rattle.vram.specs.Refusal.{given, refusal}
 use Rattle.vram.specs.Step.{number, stepBy, runBy, run}
 
 -- colour 1011 1011 1100 0111, write mask 1110 1111 1111 1011, column mask 1111 0000 0111 1010, from bit 0 on; column address 3

@@ -19,7 +19,7 @@ use Rattle.vram.specs.Memory.{puts}
 use Rattle.vram.specs.MemoryLaws.{puts-length, among, puts-at, puts-part}
 use Rattle.vram.specs.Board.{Board, allowed, effect}
 use Rattle.vram.specs.Refusal.{refusal}
-use Rattle.vram.specs.RefusalLaws.{write-zero}
+use Rattle.refusals.specs.RefusalLaws.{write-zero}
 use Rattle.vram.specs.Kinds.{names}
 
 -- `count` words of a row from a column on take pen's bits, word j through `through j`

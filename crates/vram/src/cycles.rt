@@ -9,7 +9,7 @@ ghost use Rattle.words.specs.Word.{merged, covers, lets};
 ghost use Rattle.vram.specs.State.{withColour, withMask, withSerial, other};
 ghost use Rattle.vram.specs.Memory.{put, puts, copied};
 ghost use Rattle.vram.specs.Board.{board, inForce, allowed};
-ghost use Rattle.vram.specs.Refusal.{writeRefusal, loadRefusal, fullRefusal, splitRefusal};
+ghost use Rattle.refusals.specs.Refusal.{writeRefusal, loadRefusal, fullRefusal, splitRefusal};
 ghost use Rattle.vram.specs.Calls.{answered, outcome, cycleCall, Transferred};
 ghost use Rattle.vram.specs.declared.Waiting.the-variants.{None, Tap};
 use crate::Answered;
@@ -20,10 +20,10 @@ use crate::memory::copy;
 use crate::memory::place;
 use crate::memory::write_block;
 use crate::memory::write_word;
-use crate::refusal::full_refusal;
-use crate::refusal::load_refusal;
-use crate::refusal::split_refusal;
-use crate::refusal::write_refusal;
+use refusals::full_refusal;
+use refusals::load_refusal;
+use refusals::split_refusal;
+use refusals::write_refusal;
 
 impl Vram {
     // All ones for plain; for masked the register when persistent, else the mask given with the cycle.

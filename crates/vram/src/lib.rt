@@ -9,14 +9,14 @@ ghost use Rattle.vram.specs.Calls.{readCall};
 
 mod cycles;
 mod memory;
-pub mod refusal;
+mod refusal;
 mod serial;
 mod state;
 
 use memory::place;
 use numbers::refuse;
-use refusal::fitted;
-use refusal::placed;
+use refusals::fitted;
+use refusals::placed;
 
 // The tap that a split transfer leaves for the end of the half.
 pub enum Waiting {

@@ -1,63 +1,14 @@
-// What is refused, and with which number: the lowest wins, so the last test is worked out first. The refusal of each kind of cycle is
-// public, so that a list is judged from its bytes and the rule still stands here alone.
+// What is refused, and with which number: of a state and lengths, and of a cycle. The lowest wins, so the last test is worked out first.
 ghost use mathlib.Core.Path.{_≡_};
-ghost use Rattle.vram.specs.Refusal.{fitted, placed, writeRefusal, loadRefusal, fullRefusal, splitRefusal, refusal, given};
+ghost use Rattle.vram.specs.Refusal.{refusal, given};
 use crate::Cycle;
 use crate::Vram;
 use numbers::refuse;
-
-// 512 words to a row, 1 to 512 rows.
-pub(crate) fn fitted(words: usize) -> bool
-    ensures { λ r. ⌜ r ≡ fitted words ⌝ }
-{
-    (512 <= words) & (words <= 262144) & (words % 512 == 0)
-}
-
-// 5 to 7, which a read and a write have in common.
-pub(crate) fn placed(rows: usize, row: u32, column: u32, strobes: u32, later: u32) -> u32
-    ensures { λ r. ⌜ r ≡ placed rows row column strobes later ⌝ }
-{
-    let n = refuse(
-        (1 <= strobes) & (strobes <= 3),
-        numbers::STROBES_OTHER,
-        later,
-    );
-    let n = refuse(column <= 511, numbers::COLUMN_OVER, n);
-    refuse((row as usize) < rows, numbers::ROW_NOT_FITTED, n)
-}
-
-pub fn write_refusal(rows: usize, row: u16, column: u16, masking: u8, mask: u16, strobes: u8) -> u32
-    ensures { λ r. ⌜ r ≡ writeRefusal rows row column masking mask strobes ⌝ }
-{
-    let n = refuse(
-        (masking == 0) & (mask == 0) | (masking == 1),
-        numbers::MASKING_OTHER,
-        numbers::DONE,
-    );
-    placed(rows, row as u32, column as u32, strobes as u32, n)
-}
-
-pub fn load_refusal(strobes: u8) -> u32
-    ensures { λ r. ⌜ r ≡ loadRefusal strobes ⌝ }
-{
-    let some = (1 <= strobes) & (strobes <= 3);
-    refuse(some, numbers::STROBES_OTHER, numbers::DONE)
-}
-
-pub fn full_refusal(rows: usize, row: u16, half: u8) -> u32
-    ensures { λ r. ⌜ r ≡ fullRefusal rows row half ⌝ }
-{
-    let n = refuse(half <= 1, numbers::HALF_OR_TAP_OVER, numbers::DONE);
-    refuse((row as usize) < rows, numbers::ROW_NOT_FITTED, n)
-}
-
-pub fn split_refusal(rows: usize, loaded: bool, row: u16, half: u8, tap: u8) -> u32
-    ensures { λ r. ⌜ r ≡ splitRefusal rows loaded row half tap ⌝ }
-{
-    let n = refuse(loaded, numbers::NOT_LOADED, numbers::DONE);
-    let n = refuse((half <= 1) & (tap <= 127), numbers::HALF_OR_TAP_OVER, n);
-    refuse((row as usize) < rows, numbers::ROW_NOT_FITTED, n)
-}
+use refusals::fitted;
+use refusals::full_refusal;
+use refusals::load_refusal;
+use refusals::split_refusal;
+use refusals::write_refusal;
 
 impl Vram {
     // 1 to 3: the state and the lengths given to a call, checked whether it uses them or not.

@@ -8,7 +8,8 @@ use Rattle.words.specs.Word.{merged, covers}
 use Rattle.words.specs.WordLaws.{merged-by-mask}
 use Rattle.vram.specs.Refusal.{readRefusal}
 use Rattle.vram.specs.Calls.{readCall}
-use Rattle.vram.specs.RefusalLaws.{read-zero, word-within}
+use Rattle.refusals.specs.RefusalLaws.{word-within}
+use Rattle.vram.specs.RefusalLaws.{read-zero}
 use Rattle.vram.proofs.Clocks.{worded}
 use borrow.Author.Needs.{needs}
 use Rattle.vram.proofs.read.Statement.{statement}

@@ -9,7 +9,7 @@ use Rattle.words.specs.Bit.{bit}
 use Rattle.words.specs.Word.{lets}
 use Rattle.vram.specs.Memory.{puts}
 use Rattle.vram.specs.Board.{allowed}
-use Rattle.vram.specs.RefusalLaws.{write-zero, block-within}
+use Rattle.refusals.specs.RefusalLaws.{write-zero, block-within}
 use Rattle.vram.proofs.Masks.{puts-by-mask}
 use borrow.Author.Needs.{needs}
 use Rattle.vram.proofs.Vram.block_write.Statement.{statement}

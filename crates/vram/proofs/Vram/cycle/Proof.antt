@@ -2,7 +2,8 @@
 use mathlib.Core.Path.{refl, sym, _∙_}
 use lib.ListN.{length}
 use Rattle.vram.specs.Board.{effect}
-use Rattle.vram.specs.Refusal.{loadRefusal, fullRefusal, splitRefusal, refusal}
+use Rattle.refusals.specs.Refusal.{loadRefusal, fullRefusal, splitRefusal}
+use Rattle.vram.specs.Refusal.{refusal}
 use Rattle.vram.specs.RefusalLaws.{given-zero}
 use Rattle.vram.proofs.Arms.{not-given, did, kept}
 use borrow.Author.Needs.{needs}

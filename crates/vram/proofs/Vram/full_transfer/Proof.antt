@@ -4,7 +4,7 @@ use Prim.Native.Nat.{ℕ}
 use native.Mathlib.Omega.{arith}
 use lib.ListN.{length}
 use Rattle.vram.specs.Memory.{copied}
-use Rattle.vram.specs.RefusalLaws.{full-zero, transfer-within}
+use Rattle.refusals.specs.RefusalLaws.{full-zero, transfer-within}
 use Rattle.vram.proofs.Arms.{transfer-refused, transfer-done}
 use borrow.Author.Needs.{needs}
 use Rattle.vram.proofs.Vram.full_transfer.Statement.{statement}

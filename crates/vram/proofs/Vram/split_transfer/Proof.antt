@@ -1,6 +1,6 @@
 -- `vram::Vram::split_transfer` meets its contract. Assumes nothing.
 use mathlib.Core.Path.{ap₂}
-use Rattle.vram.specs.RefusalLaws.{split-zero, transfer-within}
+use Rattle.refusals.specs.RefusalLaws.{split-zero, transfer-within}
 use mathlib.Core.Path.{sym, ap, _∙_}
 use Prim.Native.Nat.{ℕ, _+_}
 use native.Mathlib.Omega.{arith}

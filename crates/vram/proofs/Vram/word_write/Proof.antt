@@ -7,7 +7,7 @@ use Rattle.numbers.specs.RefuseLaws.{leaves-before}
 use Rattle.words.specs.Bit.{bit}
 use Rattle.vram.specs.Memory.{put}
 use Rattle.vram.specs.Board.{allowed}
-use Rattle.vram.specs.RefusalLaws.{write-zero, word-within}
+use Rattle.refusals.specs.RefusalLaws.{write-zero, word-within}
 use Rattle.vram.proofs.Masks.{put-by-mask}
 use borrow.Author.Needs.{needs}
 use Rattle.vram.proofs.Vram.word_write.Statement.{statement}

@@ -1,8 +1,8 @@
--- `vram::refusal::full_refusal` meets its contract. Assumes nothing.
-use Rattle.vram.specs.Refusal.{fullRefusal}
+-- `refusals::full_refusal` meets its contract. Assumes nothing.
+use Rattle.refusals.specs.Refusal.{fullRefusal}
 use borrow.Author.Needs.{needs}
-use Rattle.vram.proofs.refusal.full_refusal.Statement.{statement}
-use Rattle.vram.proofs.refusal.full_refusal.Tie as tie
+use Rattle.refusals.proofs.full_refusal.Statement.{statement}
+use Rattle.refusals.proofs.full_refusal.Tie as tie
 
 refuse-requires : tie.Need-refuse-requires
 refuse-requires c κs = search needs

@@ -1,8 +1,8 @@
--- `vram::refusal::load_refusal` meets its contract. Assumes nothing.
-use Rattle.vram.specs.Refusal.{loadRefusal}
+-- `refusals::load_refusal` meets its contract. Assumes nothing.
+use Rattle.refusals.specs.Refusal.{loadRefusal}
 use borrow.Author.Needs.{needs}
-use Rattle.vram.proofs.refusal.load_refusal.Statement.{statement}
-use Rattle.vram.proofs.refusal.load_refusal.Tie as tie
+use Rattle.refusals.proofs.load_refusal.Statement.{statement}
+use Rattle.refusals.proofs.load_refusal.Tie as tie
 
 refuse-requires : tie.Need-refuse-requires
 refuse-requires c κs = search needs

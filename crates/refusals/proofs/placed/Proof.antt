@@ -1,7 +1,7 @@
--- `vram::refusal::placed` meets its contract. Assumes nothing.
+-- `refusals::placed` meets its contract. Assumes nothing.
 use borrow.Author.Needs.{needs}
-use Rattle.vram.proofs.refusal.placed.Statement.{statement}
-use Rattle.vram.proofs.refusal.placed.Tie as tie
+use Rattle.refusals.proofs.placed.Statement.{statement}
+use Rattle.refusals.proofs.placed.Tie as tie
 
 refuse-requires : tie.Need-refuse-requires
 refuse-requires c κs = search needs

@@ -1,8 +1,8 @@
--- `vram::refusal::split_refusal` meets its contract. Assumes nothing.
-use Rattle.vram.specs.Refusal.{splitRefusal}
+-- `refusals::split_refusal` meets its contract. Assumes nothing.
+use Rattle.refusals.specs.Refusal.{splitRefusal}
 use borrow.Author.Needs.{needs}
-use Rattle.vram.proofs.refusal.split_refusal.Statement.{statement}
-use Rattle.vram.proofs.refusal.split_refusal.Tie as tie
+use Rattle.refusals.proofs.split_refusal.Statement.{statement}
+use Rattle.refusals.proofs.split_refusal.Tie as tie
 
 refuse-requires : tie.Need-refuse-requires
 refuse-requires c κs = search needs

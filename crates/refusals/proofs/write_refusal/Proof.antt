@@ -1,8 +1,8 @@
--- `vram::refusal::write_refusal` meets its contract. Assumes nothing.
-use Rattle.vram.specs.Refusal.{writeRefusal}
+-- `refusals::write_refusal` meets its contract. Assumes nothing.
+use Rattle.refusals.specs.Refusal.{writeRefusal}
 use borrow.Author.Needs.{needs}
-use Rattle.vram.proofs.refusal.write_refusal.Statement.{statement}
-use Rattle.vram.proofs.refusal.write_refusal.Tie as tie
+use Rattle.refusals.proofs.write_refusal.Statement.{statement}
+use Rattle.refusals.proofs.write_refusal.Tie as tie
 
 refuse-requires : tie.Need-refuse-requires
 refuse-requires c κs = search needs
