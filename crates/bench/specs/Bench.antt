@@ -1,0 +1,27 @@
+-- The starred bench cases hold, by computation over the definitions that the contracts cite. Assumes nothing.
+use mathlib.Core.Path.{refl}
+use Rattle.words.specs.Bit.{bit, ofBits}
+use Rattle.words.specs.Word.{merged, covers, lets}
+use Rattle.refusals.specs.Refusal.{writeRefusal, loadRefusal, fullRefusal, splitRefusal}
+use Rattle.vram.specs.State.{ruled}
+use Rattle.vram.specs.Memory.{put, puts, copied}
+use Rattle.vram.specs.Board.{effect}
+use Rattle.vram.specs.Refusal.{given, refusal}
+use Rattle.vram.specs.Step.{number, stepBy, runBy}
+use Rattle.vram.specs.Serial.{clockIn}
+use Rattle.vram.specs.Calls.{cycleCall, clockRefusal, clockCall}
+use Rattle.vram.specs.Kinds.{tagOf}
+use Rattle.palette.specs.State.{ruled as paletteRuled}
+use Rattle.palette.specs.Access.{written, writtenTable}
+use Rattle.palette.specs.Calls.{writeRefusal as paletteRefusal, writeCall}
+use Rattle.list.specs.Tags.{word, known, lenOf, cycleOf}
+use Rattle.list.specs.Fields.{whole, fieldOf, parts}
+use Rattle.list.specs.Encode.{encode, encodeAll, bodyOf}
+use Rattle.list.specs.Meaning.{cycles}
+use Rattle.planner.specs.Fill.{inside, touched, picked, columnsOf, plan}
+use Rattle.planner.specs.Calls.{fillRefusal, fillCall}
+use Rattle.bench.specs.Cases.{starred, Every}
+
+pub starred-cases-hold : Every starred
+unfolding bit ofBits merged covers lets writeRefusal loadRefusal fullRefusal splitRefusal ruled put puts copied effect given refusal number stepBy runBy clockIn cycleCall clockRefusal clockCall tagOf paletteRuled written writtenTable paletteRefusal writeCall word known lenOf cycleOf whole fieldOf parts encode encodeAll bodyOf cycles inside touched picked columnsOf plan fillRefusal fillCall
+starred-cases-hold = (refl, (refl, (refl, (refl, (refl, (refl, (refl, (refl, ((refl, refl, refl), ((refl, refl, refl), ((refl, refl, refl), ((refl, refl), tt))))))))))))

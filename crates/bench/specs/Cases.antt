@@ -1,0 +1,114 @@
+-- The bench cases marked * in document 01, "Bench cases": one list that holds them and no other, in its order. Assumes nothing.
+use Prim.Native.Nat.{ℕ, zero, suc}
+use mathlib.Core.Path.{_≡_}
+use mathlib.Core.Bool.{false}
+use mathlib.Core.List.{List, [], _∷_, _++_}
+use lib.ListN.{replicate}
+use Rattle.vram.specs.declared.Vram.{Vram}
+use Rattle.vram.specs.declared.Cycle.{Cycle}
+use Rattle.vram.specs.declared.Cycle.the-variants.{WordWrite, BlockWrite, LoadColour, FullTransfer, SplitTransfer}
+use Rattle.vram.specs.declared.Word.{Word}
+use Rattle.vram.specs.State.{fresh, withColour}
+use Rattle.vram.specs.Board.{Board, board}
+use Rattle.vram.specs.Refusal.{refusal}
+use Rattle.vram.specs.Step.{run}
+use Rattle.vram.specs.Calls.{cycleCall, clockCall}
+use Rattle.palette.specs.declared.Palette.{Palette}
+use Rattle.palette.specs.State.{fresh as freshPalette}
+use Rattle.palette.specs.Calls.{Outcome as Written, outcome as written, accessed, writeCall}
+use Rattle.list.specs.Meaning.{cyclesOf}
+use Rattle.planner.specs.Fill.{fill}
+use Rattle.planner.specs.Calls.{fillCall}
+use Rattle.planner.specs.Paint.{written as bytesWritten}
+
+-- ---- a case of each kind, and when it holds
+
+pub data Case : Type 0 where
+  -- masking, mask and strobes of a block write, and the block's four words afterwards
+  block-write : (masking mask strobes : ℕ) (words : List ℕ) → Case
+  -- transfers of row 0, and the places that so many clocks then answer
+  serial : (transfers : List Cycle) (clocks : ℕ) (places : List ℕ) → Case
+  -- selects and data written, the state and the table afterwards
+  palette : (writes : List (ℕ × ℕ)) (state : Palette) (table : List ℕ) → Case
+  -- columns of a fill of one row, M FFFF, not persistent, the number of cycles and the cycles
+  fill-row : (firstColumn endColumn cycles : ℕ) (list : List Cycle) → Case
+  -- a row of 512 fitted, and the number given
+  row : (accepted refused number : ℕ) → Case
+
+-- colour A5C3, and a row of zeros
+abbrev pub coloured : List ℕ → Board
+coloured m = board (withColour fresh 0xA5C3) m (replicate 256 0)
+
+-- n numbers from the one given on: as a memory, each word says its place
+abbrev pub places : ℕ → ℕ → List ℕ
+places at zero = []
+places at (suc n) = at ∷ places (suc at) n
+
+-- the words that serial clocks answer, with their numbers
+abbrev pub clocked : ℕ → Vram → List ℕ → List Word
+clocked zero s r = []
+clocked (suc n) s r =
+    let c = clockCall s r in
+    record { number = c .number; word = c .word } ∷ clocked n (c .state) r
+
+abbrev pub done : List ℕ → List Word
+done [] = []
+done (w ∷ l) = record { number = 0; word = w } ∷ done l
+
+-- a table whose bytes are all 7
+abbrev pub sevens : List ℕ
+sevens = replicate 768 7
+
+-- accesses one after the other
+abbrev pub accesses : List (ℕ × ℕ) → Palette → List ℕ → Written
+accesses [] p t = written (accessed p 0 0) t
+accesses ((select, value) ∷ l) p t = let o = writeCall p t select value in accesses l (o .answer .state) (o .table)
+
+abbrev pub Holds : Case → Type 0
+Holds (block-write masking mask strobes words) =
+    cycleCall (BlockWrite 0 7 0x8421 masking mask strobes) (coloured (replicate 512 0))
+    ≡ record { given = 0; after = coloured (replicate 4 0 ++ words ++ replicate 504 0) }
+Holds (serial transfers clocks answered) =
+    let b = run transfers (board fresh (places 0 512) (replicate 256 0)) in
+    clocked clocks (b .state) (b .serial) ≡ done answered
+Holds (palette writes state table) = accesses writes freshPalette sevens ≡ written (accessed state 0 0) table
+Holds (fill-row firstColumn endColumn cycles list) =
+    let o = fillCall (fill 1 0 1 firstColumn endColumn 0xFFFF 0x0011 0) (replicate 32 0) in
+    (o .answer .number ≡ 0) × (o .answer .cycles ≡ cycles) × (cyclesOf (bytesWritten o) ≡ list)
+Holds (row accepted refused number) =
+    (refusal 512 false (WordWrite refused 0 0 0 0 3) ≡ number) × (refusal 512 false (WordWrite accepted 0 0 0 0 3) ≡ 0)
+
+-- ---- document 01's cases
+
+abbrev pub starred : List Case
+starred =
+    -- Colour A5C3, four zero words in columns 4 to 7, block write at column 7, column mask 8421, plain, both: 0003, 00C0, 0500, A000.
+    block-write 0 0 3 (0x0003 ∷ 0x00C0 ∷ 0x0500 ∷ 0xA000 ∷ [])
+    -- The same, strobes 1: 0003, 00C0, 0000, 0000.
+    ∷ block-write 0 0 1 (0x0003 ∷ 0x00C0 ∷ 0x0000 ∷ 0x0000 ∷ [])
+    -- Masked 0FF0, both: 0000, 00C0, 0500, 0000.
+    ∷ block-write 1 0x0FF0 3 (0x0000 ∷ 0x00C0 ∷ 0x0500 ∷ 0x0000 ∷ [])
+    -- Full transfer tap 126, three clocks: places 126, 127, 128.
+    ∷ serial (FullTransfer 0 0 126 ∷ []) 3 (126 ∷ 127 ∷ 128 ∷ [])
+    -- With a split, tap 5, before them: 126, 127, 133.
+    ∷ serial (FullTransfer 0 0 126 ∷ SplitTransfer 0 0 5 ∷ []) 3 (126 ∷ 127 ∷ 133 ∷ [])
+    -- Tap 255, two clocks: 255, 0.
+    ∷ serial (FullTransfer 0 0 255 ∷ []) 2 (255 ∷ 0 ∷ [])
+    -- Fresh palette state, select 0 = 255, colours 63, 64, 1: entry 255 is (63, 0, 1), A is 0.
+    ∷ palette ((0, 255) ∷ (1, 63) ∷ (1, 64) ∷ (1, 1) ∷ [])
+    (record { address = 0; phase = 0; red = 63; green = 0; blue = 1; mask = 255 }) (replicate 765 7 ++ 63 ∷ 0 ∷ 1 ∷ [])
+    -- Fresh palette state, colours 10, 20, then select 0 = 5: no entry changes, phase 0.
+    ∷ palette ((1, 10) ∷ (1, 20) ∷ (0, 5) ∷ []) (record { address = 5; phase = 0; red = 10; green = 20; blue = 0; mask = 255 }) sevens
+    -- Fill of one row, M FFFF, not persistent, columns 0 to 2 (end): 2 word writes.
+    ∷ fill-row 0 2 2 (WordWrite 0 0 0x0011 1 0xFFFF 3 ∷ WordWrite 0 1 0x0011 1 0xFFFF 3 ∷ [])
+    -- 0 to 3: colour, one block.
+    ∷ fill-row 0 3 2 (LoadColour 0x0011 3 ∷ BlockWrite 0 0 0x7777 1 0xFFFF 3 ∷ [])
+    -- 3 to 5: 2 word writes.
+    ∷ fill-row 3 5 2 (WordWrite 0 3 0x0011 1 0xFFFF 3 ∷ WordWrite 0 4 0x0011 1 0xFFFF 3 ∷ [])
+    -- Row 512 of 512: 5. Row 511 is accepted.
+    ∷ row 511 512 5
+    ∷ []
+
+abbrev pub Every : List Case → Type 0
+Every [] = Unit
+Every (c ∷ l) = Holds c × Every l

@@ -1,0 +1,3 @@
+-- The starred bench cases, and that they hold.
+pub mod Cases
+pub mod Bench
