@@ -11,11 +11,13 @@ use contract.Monad.{Fun, fact}
 use contract.Lifetimes.{Lfts}
 use denote.Triple.Entry.{Args, Res}
 use denote.Triple.Clauses.{AtExit}
-use Rattle.palette.specs.Once.{Fresh, Allows, Write, Read}
+use Rattle.palette.specs.Once.{Fresh, Allows, Write, Read, WritesLent, ReadsLent}
 use Rattle.palette.proofs.Palette.fresh as fresh
 use Rattle.palette.proofs.Palette.ruled as ruled
 use Rattle.palette.proofs.Palette.write as write
 use Rattle.palette.proofs.Palette.read as read
+use Rattle.palette.proofs.lent.linkshoar_palette_write_lent as write-lent
+use Rattle.palette.proofs.lent.linkshoar_palette_read_lent as read-lent
 
 module _ {M : Type 1} (𝓤 : URA M) (H : Heap 𝓤) (A : Atoms 𝓤) (mem : Memory → SProp 𝓤) (run : Routine → Fun 𝓤) where
   module _ (κs : Lfts 0) (a : Args fresh.signature κs) where
@@ -49,3 +51,20 @@ module _ {M : Type 1} (𝓤 : URA M) (H : Heap 𝓤) (A : Atoms 𝓤) (mem : Mem
     read-says : (r : Res read.signature κs) (e : AtExit read.ended κs)
         → read.clauses 𝓤 H A mem run κs a .ensures tt r e ≡ fact 𝓤 (Read (a .0, a .1 .0) r)
     read-says r e = refl
+
+  module _ (κs : Lfts 2) (a : Args write-lent.signature κs) where
+    write-lent-asks : write-lent.clauses 𝓤 H A mem run κs a .requires tt ≡ emp 𝓤
+    write-lent-asks = refl
+
+    write-lent-says : (r : Res write-lent.signature κs) (e : AtExit write-lent.ended κs)
+        → write-lent.clauses 𝓤 H A mem run κs a .ensures tt r e
+        ≡ fact 𝓤 (WritesLent (a .0 .now, a .1 .0 .now, a .1 .1 .0, a .1 .1 .1 .0) (r, e .0 .now, e .1 .0 .now))
+    write-lent-says r e = refl
+
+  module _ (κs : Lfts 1) (a : Args read-lent.signature κs) where
+    read-lent-asks : read-lent.clauses 𝓤 H A mem run κs a .requires tt ≡ emp 𝓤
+    read-lent-asks = refl
+
+    read-lent-says : (r : Res read-lent.signature κs) (e : AtExit read-lent.ended κs)
+        → read-lent.clauses 𝓤 H A mem run κs a .ensures tt r e ≡ fact 𝓤 (ReadsLent (a .0 .now, a .1 .0) (r, e .0 .now))
+    read-lent-says r e = refl

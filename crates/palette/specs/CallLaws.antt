@@ -1,5 +1,5 @@
 -- The number that an access gives; it is refused and changes nothing, or is done. Assumes nothing.
-use mathlib.Core.Path.{_≡_}
+use mathlib.Core.Path.{_≡_, ap}
 use mathlib.Core.Bool.{true, false}
 use mathlib.Core.List.{List}
 use mathlib.Core.Logic.{_≢_}
@@ -9,9 +9,10 @@ use lib.ListN.{length}
 use borrow.Author.Tests.{eqb-true, leb-true, ne-eqb, le-leb, lt-leb}
 use Rattle.numbers.specs.RefuseLaws.{refuse-zero, leaves-before}
 use Rattle.palette.specs.declared.Palette.{Palette}
+use Rattle.palette.specs.declared.Accessed.{Accessed}
 use Rattle.palette.specs.State.{ruled}
 use Rattle.palette.specs.Access.{written, writtenTable, answered, afterRead}
-use Rattle.palette.specs.Calls.{accessed, outcome, writeRefusal, writeCall, readRefusal, readCall}
+use Rattle.palette.specs.Calls.{accessed, Outcome, outcome, writeRefusal, writeCall, readRefusal, readCall}
 
 -- ---- a write
 
@@ -59,6 +60,12 @@ pub write-accepted : (p : Palette) (t : List ℕ) → ruled p ≡ true → lengt
     → writeCall p t s d ≡ outcome (accessed (written p t s d) 0 0) (writtenTable p t s d)
 unfolding writeCall writeRefusal
 write-accepted p t r b s d h = rw (r, b, le-leb s 3 h)
+
+-- the byte that a write answers is 0
+pub write-byte : (p : Palette) (t : List ℕ) (s d : ℕ) {r : Accessed} {t′ : List ℕ} → outcome r t′ ≡ writeCall p t s d
+    → outcome (accessed (r .state) 0 (r .number)) t′ ≡ writeCall p t s d
+unfolding writeCall
+write-byte p t s d e = ap (λ (o : Outcome). outcome (accessed (o .answer .state) 0 (o .answer .number)) (o .table)) e
 
 -- ---- a read
 

@@ -7,6 +7,7 @@ ghost use Rattle.palette.specs.State.{fresh};
 ghost use Rattle.palette.specs.Calls.{outcome, writeCall, readCall};
 
 mod access;
+mod lent;
 mod state;
 
 use numbers::refuse;
