@@ -87,6 +87,7 @@ pub struct Clocked {
 }
 
 // What a word read gives back.
+#[repr(C)]
 pub struct Word {
     pub number: u32,
     pub word: u16,

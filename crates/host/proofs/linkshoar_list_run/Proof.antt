@@ -1,0 +1,51 @@
+-- `host::linkshoar_list_run` meets its contract. Assumes nothing.
+use borrow.Author.Needs.{needs}
+use mathlib.Core.Path.{sym, _∙_}
+use Rattle.host.specs.CallLaws.{list-excluded, list-done}
+use Rattle.host.proofs.linkshoar_list_run.Statement.{statement}
+use Rattle.host.proofs.linkshoar_list_run.Tie as tie
+
+lawful-requires : tie.Need-lawful-requires
+lawful-requires c κs = search needs
+
+take-requires : tie.Need-take-requires
+take-requires c κs = search needs
+
+run-requires : tie.Need-run-requires
+run-requires c κs = search needs
+
+hand-requires : tie.Need-hand-requires
+hand-requires c κs = search needs
+
+same-length : tie.Need-same-length
+same-length c = search needs
+
+same-length-2 : tie.Need-same-length-2
+same-length-2 c = search needs
+
+returns : tie.Need-returns
+returns c =
+    let r = c .before .before .before .before .before in
+    let t = r .before .before .before in
+    let l = t .before .before in
+    let a = l .before .before .before .before .args in
+    list-done (a .state) (sym (l .lawful .ensures) ∙ t .before .if1 .taken) (t .take .result) (t .take .ensures) (c .hand .result)
+    (a .memory .now) (a .serial .now) (a .list .now) (r .run .result) (r .run .last .1 .0) (r .run .last .1 .1 .0) (r .run .ensures) (c .hand .ensures)
+
+returns-2 : tie.Need-returns-2
+returns-2 c =
+    let a = c .before .before .before .before .before .args in
+    list-excluded (a .state) (sym (c .before .lawful .ensures) ∙ c .if1 .left) (a .memory .now) (a .serial .now) (a .list .now)
+
+pub linkshoar-list-run-spec : {M : Type 1} → statement M
+linkshoar-list-run-spec =
+    tie.close
+    (tie.spec
+    lawful-requires
+    take-requires
+    run-requires
+    hand-requires
+    same-length
+    same-length-2
+    returns
+    returns-2)

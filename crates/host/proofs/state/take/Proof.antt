@@ -1,0 +1,15 @@
+-- `host::state::take` meets its contract. Assumes nothing.
+use borrow.Author.Needs.{needs}
+use Rattle.host.specs.State.{taken}
+use Rattle.host.proofs.state.take.Statement.{statement}
+use Rattle.host.proofs.state.take.Tie as tie
+
+waiting-of-requires : tie.Need-waiting-of-requires
+waiting-of-requires c κs = search needs
+
+returns : tie.Need-returns
+unfolding taken
+returns c = rw (c .before .before .waiting-of .ensures)
+
+pub take-spec : {M : Type 1} → statement M
+take-spec = tie.close (tie.spec waiting-of-requires returns)

@@ -1,0 +1,56 @@
+-- What each export answers and leaves that takes the video RAM's state from C: 1 where no `Vram` can be so, and else what the call below
+-- answers, with the state handed back. Assumes nothing.
+use Prim.Native.Nat.{ℕ}
+use mathlib.Core.Bool.{cond}
+use mathlib.Core.List.{List}
+use Rattle.vram.specs.Board.{board}
+use Rattle.vram.specs.Calls.{clockCall as vramClock}
+use Rattle.palette.specs.declared.Palette.{Palette}
+use Rattle.list.specs.Meaning.{Outcome, runCall}
+use Rattle.panel.specs.Calls.{Outcome as PanelOutcome, runCall as panelRun}
+use Rattle.host.specs.declared.Registers.{Registers}
+use Rattle.host.specs.declared.Ran.{Ran}
+use Rattle.host.specs.declared.Shown.{Shown}
+use Rattle.host.specs.declared.Clocked.{Clocked}
+use Rattle.host.specs.State.{lawful, taken, handed}
+
+-- ---- a list
+
+pub record Listed : Type 0 where
+  pub answer : Ran
+  pub memory : List ℕ
+  pub serial : List ℕ
+
+abbrev pub listed : Ran → List ℕ → List ℕ → Listed
+listed r m q = record { answer = r; memory = m; serial = q }
+
+abbrev pub listAnswer : Outcome → Listed
+listAnswer o =
+    listed (record { state = handed (o .after .state); number = o .given .number; place = o .given .place }) (o .after .memory) (o .after .serial)
+
+unfoldable pub listCall : Registers → List ℕ → List ℕ → List ℕ → Listed
+listCall s m q list =
+    cond (lawful s) (listAnswer (runCall list (board (taken s) m q))) (listed (record { state = s; number = 1; place = 0 }) m q)
+
+-- ---- a serial clock
+
+unfoldable pub clockCall : Registers → List ℕ → Clocked
+clockCall s r =
+    let c = vramClock (taken s) r in
+    cond (lawful s) (record { state = handed (c .state); word = c .word; number = c .number }) (record { state = s; word = 0; number = 1 })
+
+-- ---- a run to the panel
+
+pub record ShownTo : Type 0 where
+  pub answer : Shown
+  pub buffer : List ℕ
+
+abbrev pub shown : Shown → List ℕ → ShownTo
+shown r out = record { answer = r; buffer = out }
+
+abbrev pub panelAnswer : PanelOutcome → ShownTo
+panelAnswer o = shown (record { state = handed (o .answer .state); number = o .answer .number }) (o .buffer)
+
+unfoldable pub panelCall : Registers → List ℕ → Palette → List ℕ → ℕ → ℕ → List ℕ → ShownTo
+panelCall s r p t clocks blank out =
+    cond (lawful s) (panelAnswer (panelRun (taken s) r p t clocks blank out)) (shown (record { state = s; number = 1 }) out)

@@ -1,0 +1,5 @@
+-- The C interface: the state as C has it, and what each export answers.
+pub mod State
+pub mod Calls
+pub mod CallLaws
+pub mod Once

@@ -1,0 +1,47 @@
+-- The video RAM's state as C has it, and as `vram` has it. Assumes nothing.
+use Prim.Native.Nat.{ℕ}
+use mathlib.Core.Bool.{Bool, not, _&&_, _||_, cond}
+use lib.Dec.{eqb, leb}
+use Rattle.words.specs.Bit.{digit}
+use Rattle.vram.specs.declared.Vram.{Vram}
+use Rattle.vram.specs.declared.Waiting.{Waiting}
+use Rattle.vram.specs.declared.Waiting.the-variants.{None, Tap}
+use Rattle.host.specs.declared.Registers.{Registers}
+
+-- a `Vram` can be so: yes-or-no bytes of 0 or 1, and no tap where nothing waits
+unfoldable pub lawful : Registers → Bool
+lawful s = ((leb (s .persistent) 1 && leb (s .loaded) 1) && leb (s .waiting) 1) && (eqb (s .waiting) 1 || eqb (s .tap) 0)
+
+abbrev pub waitingOf : ℕ → ℕ → Waiting
+waitingOf waiting tap = cond (eqb waiting 0) None (Tap tap)
+
+unfoldable pub taken : Registers → Vram
+taken s =
+    record {
+      colour = s .colour;
+      mask = s .mask;
+      persistent = not (eqb (s .persistent) 0);
+      loaded = not (eqb (s .loaded) 0);
+      pointer = s .pointer;
+      waiting = waitingOf (s .waiting) (s .tap);
+    }
+
+-- the registers with what waits: 0 none, 1 tap
+abbrev pub handedWith : Vram → ℕ → ℕ → Registers
+handedWith v waiting tap =
+    record {
+      colour = v .colour;
+      mask = v .mask;
+      persistent = digit (v .persistent);
+      loaded = digit (v .loaded);
+      pointer = v .pointer;
+      waiting = waiting;
+      tap = tap;
+    }
+
+abbrev pub handedBy : Waiting → Vram → Registers
+handedBy None v = handedWith v 0 0
+handedBy (Tap tap) v = handedWith v 1 tap
+
+unfoldable pub handed : Vram → Registers
+handed v = handedBy (v .waiting) v

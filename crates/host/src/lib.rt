@@ -1,0 +1,191 @@
+// The C interface: the calls of the crates below as a C program makes them. `host/include/linkshoar.h` declares them.
+// Structs go by value, slices as pointer and length; arguments that have a refusal are 32 bits wide and are tested before they are
+// narrowed. Nothing is allocated and nothing is kept.
+ghost use mathlib.Core.Path.{_≡_};
+ghost use Rattle.vram.specs.State.{fresh as freshVram};
+ghost use Rattle.vram.specs.Calls.{readCall};
+ghost use Rattle.palette.specs.State.{fresh as freshPalette};
+ghost use Rattle.palette.specs.Calls.{outcome as accessedOutcome, writeCall, readCall as paletteRead};
+ghost use Rattle.planner.specs.Fill.{fill};
+ghost use Rattle.planner.specs.Calls.{outcome as filledOutcome, fillCall};
+ghost use Rattle.host.specs.State.{handed};
+ghost use Rattle.host.specs.Calls.{listed, listCall, clockCall, shown, panelCall};
+
+mod state;
+
+use palette::Accessed;
+use palette::Palette;
+use planner::Filled;
+use state::hand;
+use state::lawful;
+use state::take;
+use vram::Vram;
+use vram::Word;
+
+// The video RAM's registers as C has them. waiting: 0 none, 1 tap.
+#[repr(C)]
+pub struct Registers {
+    pub colour: u16,
+    pub mask: u16,
+    pub persistent: u8,
+    pub loaded: u8,
+    pub pointer: u8,
+    pub waiting: u8,
+    pub tap: u8,
+}
+
+#[repr(C)]
+pub struct Ran {
+    pub state: Registers,
+    pub number: u32,
+    pub place: u64,
+}
+
+#[repr(C)]
+pub struct Shown {
+    pub state: Registers,
+    pub number: u32,
+}
+
+#[repr(C)]
+pub struct Clocked {
+    pub state: Registers,
+    pub word: u16,
+    pub number: u32,
+}
+
+#[no_mangle]
+pub extern "C" fn linkshoar_vram_fresh() -> Registers
+    ensures { λ r. ⌜ r ≡ handed freshVram ⌝ }
+{
+    hand(Vram::fresh())
+}
+
+#[no_mangle]
+pub extern "C" fn linkshoar_palette_fresh() -> Palette
+    ensures { λ r. ⌜ r ≡ freshPalette ⌝ }
+{
+    Palette::fresh()
+}
+
+// The planner's call again: an archive has the exports of its own crate alone.
+#[no_mangle]
+pub extern "C" fn linkshoar_fill(
+    rows: u32,
+    first_row: u32,
+    end_row: u32,
+    first_column: u32,
+    end_column: u32,
+    mask: u16,
+    colour: u16,
+    persistent: u32,
+    list: &mut [u8],
+) -> Filled
+    ensures { λ r. ⌜ filledOutcome r (now (list .exit)) ≡ fillCall (fill rows «first_row» «end_row» «first_column» «end_column» mask colour persistent) (now (list .entry)) ⌝ }
+{
+    planner::linkshoar_fill(
+        rows,
+        first_row,
+        end_row,
+        first_column,
+        end_column,
+        mask,
+        colour,
+        persistent,
+        list,
+    )
+}
+
+#[no_mangle]
+pub extern "C" fn linkshoar_list_run(
+    state: Registers,
+    memory: &mut [u16],
+    serial: &mut [u16],
+    list: &[u8],
+) -> Ran
+    ensures { λ r. ⌜ listed r (now (memory .exit)) (now (serial .exit)) ≡ listCall state (now (memory .entry)) (now (serial .entry)) (now (list .entry)) ⌝ }
+{
+    if lawful(state) {
+        let ran = list::run(take(state), memory, serial, list);
+        return Ran {
+            state: hand(ran.state),
+            number: ran.number,
+            place: ran.place,
+        };
+    }
+    Ran {
+        state,
+        number: numbers::STATE_EXCLUDED,
+        place: 0,
+    }
+}
+
+#[no_mangle]
+pub extern "C" fn linkshoar_word_read(memory: &[u16], row: u32, column: u32, strobes: u32) -> Word
+    ensures { λ r. ⌜ r ≡ readCall (now (memory .entry)) row column strobes ⌝ }
+{
+    vram::read(memory, row, column, strobes)
+}
+
+#[no_mangle]
+pub extern "C" fn linkshoar_serial_clock(state: Registers, serial: &[u16]) -> Clocked
+    ensures { λ r. ⌜ r ≡ clockCall state (now (serial .entry)) ⌝ }
+{
+    if lawful(state) {
+        let clocked = take(state).clock(serial);
+        return Clocked {
+            state: hand(clocked.state),
+            word: clocked.word,
+            number: clocked.number,
+        };
+    }
+    Clocked {
+        state,
+        word: 0,
+        number: numbers::STATE_EXCLUDED,
+    }
+}
+
+#[no_mangle]
+pub extern "C" fn linkshoar_panel_run(
+    state: Registers,
+    serial: &[u16],
+    palette: Palette,
+    table: &[u8],
+    clocks: u32,
+    blank: u32,
+    out: &mut [u8],
+) -> Shown
+    ensures { λ r. ⌜ shown r (now (out .exit)) ≡ panelCall state (now (serial .entry)) palette (now (table .entry)) clocks blank (now (out .entry)) ⌝ }
+{
+    if lawful(state) {
+        let answered = panel::run(take(state), serial, palette, table, clocks, blank, out);
+        return Shown {
+            state: hand(answered.state),
+            number: answered.number,
+        };
+    }
+    Shown {
+        state,
+        number: numbers::STATE_EXCLUDED,
+    }
+}
+
+#[no_mangle]
+pub extern "C" fn linkshoar_palette_write(
+    state: Palette,
+    table: &mut [u8],
+    select: u32,
+    value: u8,
+) -> Accessed
+    ensures { λ r. ⌜ accessedOutcome r (now (table .exit)) ≡ writeCall state (now (table .entry)) select value ⌝ }
+{
+    state.write(table, select, value)
+}
+
+#[no_mangle]
+pub extern "C" fn linkshoar_palette_read(state: Palette, select: u32) -> Accessed
+    ensures { λ r. ⌜ r ≡ paletteRead state select ⌝ }
+{
+    state.read(select)
+}

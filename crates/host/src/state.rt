@@ -1,0 +1,74 @@
+// The video RAM's state as C has it, and as `vram` has it.
+ghost use mathlib.Core.Path.{_≡_};
+ghost use Rattle.words.specs.Bit.{digit};
+ghost use Rattle.host.specs.State.{lawful, waitingOf, taken, handed};
+use crate::Registers;
+use vram::Vram;
+use vram::Waiting;
+
+// Whether a `Vram` can be so: yes-or-no bytes of 0 or 1, and no tap where nothing waits.
+pub fn lawful(state: Registers) -> bool
+    ensures { λ r. ⌜ r ≡ lawful state ⌝ }
+{
+    (state.persistent <= 1)
+        & (state.loaded <= 1)
+        & (state.waiting <= 1)
+        & ((state.waiting == 1) | (state.tap == 0))
+}
+
+fn waiting_of(waiting: u8, tap: u8) -> Waiting
+    ensures { λ r. ⌜ r ≡ waitingOf waiting tap ⌝ }
+{
+    if waiting == 0 {
+        Waiting::None
+    } else {
+        Waiting::Tap(tap)
+    }
+}
+
+pub fn take(state: Registers) -> Vram
+    ensures { λ r. ⌜ r ≡ taken state ⌝ }
+{
+    let waiting = waiting_of(state.waiting, state.tap);
+    Vram {
+        colour: state.colour,
+        mask: state.mask,
+        persistent: state.persistent != 0,
+        loaded: state.loaded != 0,
+        pointer: state.pointer,
+        waiting,
+    }
+}
+
+// A yes-or-no as a byte.
+fn byte(yes: bool) -> u8
+    ensures { λ r. ⌜ r ≡ digit yes ⌝ }
+{
+    if yes { 1 } else { 0 }
+}
+
+pub fn hand(state: Vram) -> Registers
+    ensures { λ r. ⌜ r ≡ handed state ⌝ }
+{
+    let waiting = state.waiting;
+    match waiting {
+        Waiting::None => Registers {
+            colour: state.colour,
+            mask: state.mask,
+            persistent: byte(state.persistent),
+            loaded: byte(state.loaded),
+            pointer: state.pointer,
+            waiting: 0,
+            tap: 0,
+        },
+        Waiting::Tap(tap) => Registers {
+            colour: state.colour,
+            mask: state.mask,
+            persistent: byte(state.persistent),
+            loaded: byte(state.loaded),
+            pointer: state.pointer,
+            waiting: 1,
+            tap,
+        },
+    }
+}

@@ -1,0 +1,213 @@
+/* A results page on a panel: fills planned, lists run, rows transferred, shown through the palette, and written as a picture.
+ *   demo PICTURE.png
+ * Each result stands in the low byte of the words, its mark in the high byte: amber preliminary, green final. In the end one preliminary
+ * result is cleared and painted anew through mask 00FF, over its mark: the mark is still amber. */
+#include "glyphs.h"
+#include "linkshoar.h"
+
+#include <stdio.h>
+#include <stdlib.h>
+#include <string.h>
+
+enum { ROWS = 320, COLUMNS = LINKSHOAR_COLUMNS };
+enum { DARK = 0, AMBER = 1, GREEN = 2, LABEL = 3, RESULT = 4, TITLE = 5, LINE = 6 }; /* palette entries */
+
+static uint16_t memory[ROWS * COLUMNS], serial[LINKSHOAR_SERIAL_WORDS];
+static uint8_t table[LINKSHOAR_TABLE_BYTES], list[LINKSHOAR_LIST_BYTES], picture[ROWS][COLUMNS][3];
+static linkshoar_vram state;
+static unsigned long fills, cycles, words_alone;
+
+static void must(uint32_t number, const char *what)
+{
+    if (number != LINKSHOAR_DONE) {
+        fprintf(stderr, "%s: %s\n", what, linkshoar_strerror(number));
+        exit(1);
+    }
+}
+
+/* ---- drawing: every rectangle is a planned list, run at once */
+
+static void fill(uint32_t row, uint32_t column, uint32_t height, uint32_t width, uint16_t mask, uint16_t colour)
+{
+    linkshoar_filled plan = linkshoar_fill(ROWS, row, row + height, column, column + width, mask, colour, state.persistent, list, sizeof list);
+    must(plan.number, "fill");
+    linkshoar_ran ran = linkshoar_list_run(state, memory, ROWS * COLUMNS, serial, LINKSHOAR_SERIAL_WORDS, list, plan.bytes);
+    must(ran.number, "list");
+    state = ran.state;
+    fills++, cycles += plan.cycles, words_alone += (unsigned long)height * width;
+}
+
+/* A result's colour goes to the low byte, a mark to the high byte. */
+static void paint(uint32_t row, uint32_t column, uint32_t height, uint32_t width, uint8_t entry)
+{
+    fill(row, column, height, width, 0x00FF, entry);
+}
+
+static void mark(uint32_t row, uint32_t column, uint32_t height, uint32_t width, uint8_t entry)
+{
+    fill(row, column, height, width, 0xFF00, (uint16_t)(entry << 8));
+}
+
+/* Text of 10 by 14 words a letter: each lit stretch of a letter's row is one fill. */
+static void text(uint32_t row, uint32_t column, const char *letters, uint8_t entry)
+{
+    for (; *letters; letters++, column += 12)
+        for (size_t g = 0; g < sizeof glyphs / sizeof *glyphs; g++)
+            if (glyphs[g].letter == *letters)
+                for (uint32_t r = 0; r < 7; r++)
+                    for (uint32_t c = 0; c < 5; c++) {
+                        uint32_t n = 0;
+                        while (c + n < 5 && glyphs[g].rows[r] >> (4 - c - n) & 1)
+                            n++;
+                        if (n)
+                            paint(row + 2 * r, column + 2 * c, 2, 2 * n, entry);
+                        c += n;
+                    }
+}
+
+static void result(uint32_t row, const char *label, const char *value, uint8_t status)
+{
+    mark(row, 24, 22, 22, status);
+    text(row + 4, 64, label, LABEL);
+    text(row + 4, 300, value, RESULT);
+    paint(row + 29, 24, 1, 464, LINE);
+}
+
+static void page(void)
+{
+    paint(0, 0, ROWS, COLUMNS, DARK);
+    paint(0, 0, 44, COLUMNS, TITLE);
+    text(15, 24, "BLOOD SCREENING", RESULT);
+    text(15, 360, "UNIT 0417", RESULT);
+    result(64, "HIV AB", "NEG 0.12", GREEN);
+    result(100, "HBS AG", "NEG 0.08", GREEN);
+    result(136, "HCV AB", "POS 3.71", AMBER);
+    result(172, "SYPHILIS", "NEG 0.21", GREEN);
+    result(208, "CMV AB", "NEG 0.35", AMBER);
+    mark(272, 24, 22, 22, AMBER);
+    text(276, 64, "PRELIMINARY", LABEL);
+    mark(272, 276, 22, 22, GREEN);
+    text(276, 316, "FINAL", LABEL);
+}
+
+/* The rerun of a preliminary result: its whole line cleared and painted anew through mask 00FF, mark and all. */
+static void rerun(void)
+{
+    paint(136, 24, 22, 464, DARK);
+    text(140, 64, "HCV AB", LABEL);
+    text(140, 300, "POS 3.68", RESULT);
+}
+
+/* ---- showing */
+
+static void colour(linkshoar_palette *palette, uint8_t entry, uint8_t red, uint8_t green, uint8_t blue)
+{
+    const uint8_t values[4] = {entry, red, green, blue};
+    for (uint32_t i = 0; i < 4; i++) {
+        linkshoar_accessed done = linkshoar_palette_write(*palette, table, sizeof table, i != 0, values[i]);
+        must(done.number, "palette");
+        *palette = done.state;
+    }
+}
+
+static void show(linkshoar_palette palette)
+{
+    uint8_t out[3 * LINKSHOAR_SERIAL_WORDS];
+    for (uint32_t row = 0; row < ROWS; row++)
+        for (uint32_t half = 0; half < 2; half++) {
+            const uint8_t transfer[7] = {6, 0, 4, (uint8_t)(row / 256), (uint8_t)row, (uint8_t)half, 0};
+            linkshoar_ran ran = linkshoar_list_run(state, memory, ROWS * COLUMNS, serial, LINKSHOAR_SERIAL_WORDS, transfer, sizeof transfer);
+            must(ran.number, "transfer");
+            linkshoar_shown shown = linkshoar_panel_run(ran.state, serial, LINKSHOAR_SERIAL_WORDS, palette, table, sizeof table,
+                                                        LINKSHOAR_SERIAL_WORDS, 0, out, sizeof out);
+            must(shown.number, "panel");
+            state = shown.state;
+            for (size_t i = 0; i < sizeof out; i++) /* six bits to eight */
+                ((uint8_t *)picture[row])[256 * 3 * half + i] = (uint8_t)(4 * out[i] + out[i] / 16);
+        }
+}
+
+/* ---- a PNG with nothing compressed */
+
+static uint32_t crc_of(const uint8_t *bytes, size_t n, uint32_t crc)
+{
+    for (size_t i = 0; i < n; i++) {
+        crc ^= bytes[i];
+        for (int b = 0; b < 8; b++)
+            crc = crc & 1 ? 0xEDB88320u ^ crc >> 1 : crc >> 1;
+    }
+    return crc;
+}
+
+static void four(uint8_t *at, uint32_t n)
+{
+    at[0] = (uint8_t)(n >> 24), at[1] = (uint8_t)(n >> 16), at[2] = (uint8_t)(n >> 8), at[3] = (uint8_t)n;
+}
+
+static void chunk(FILE *file, const char *name, const uint8_t *bytes, uint32_t n)
+{
+    uint8_t word[4];
+    four(word, n);
+    fwrite(word, 1, 4, file);
+    fwrite(name, 1, 4, file);
+    fwrite(bytes, 1, n, file);
+    four(word, ~crc_of(bytes, n, crc_of((const uint8_t *)name, 4, ~0u)));
+    fwrite(word, 1, 4, file);
+}
+
+static void write_picture(const char *path)
+{
+    enum { LINE_BYTES = 1 + 3 * COLUMNS };
+    static uint8_t packed[2 + ROWS * (5 + LINE_BYTES) + 4];
+    uint8_t head[13] = {0, 0, 0, 0, 0, 0, 0, 0, 8, 2, 0, 0, 0};
+    uint32_t a = 1, b = 0;
+    size_t at = 2;
+    FILE *file = fopen(path, "wb");
+    if (!file) {
+        perror(path);
+        exit(1);
+    }
+    packed[0] = 0x78, packed[1] = 0x01;
+    for (uint32_t row = 0; row < ROWS; row++) {
+        uint8_t *block = packed + at;
+        block[0] = row + 1 == ROWS;
+        block[1] = (uint8_t)LINE_BYTES, block[2] = LINE_BYTES >> 8;
+        block[3] = (uint8_t)~LINE_BYTES, block[4] = (uint8_t)(~LINE_BYTES >> 8);
+        block[5] = 0;
+        memcpy(block + 6, picture[row], 3 * COLUMNS);
+        for (size_t i = 0; i < LINE_BYTES; i++)
+            a = (a + block[5 + i]) % 65521, b = (b + a) % 65521;
+        at += 5 + LINE_BYTES;
+    }
+    four(packed + at, b << 16 | a);
+    four(head, COLUMNS);
+    four(head + 4, ROWS);
+    fwrite("\x89PNG\r\n\x1A\n", 1, 8, file);
+    chunk(file, "IHDR", head, sizeof head);
+    chunk(file, "IDAT", packed, (uint32_t)at + 4);
+    chunk(file, "IEND", NULL, 0);
+    fclose(file);
+}
+
+int main(int argc, char **argv)
+{
+    linkshoar_palette palette = linkshoar_palette_fresh();
+    state = linkshoar_vram_fresh();
+    colour(&palette, DARK, 3, 5, 9);
+    colour(&palette, AMBER, 63, 44, 0);
+    colour(&palette, GREEN, 4, 48, 16);
+    colour(&palette, LABEL, 40, 44, 50);
+    colour(&palette, RESULT, 61, 62, 63);
+    colour(&palette, TITLE, 8, 18, 34);
+    colour(&palette, LINE, 13, 17, 23);
+    page();
+    rerun();
+    show(palette);
+    write_picture(argc > 1 ? argv[1] : "page.png");
+    printf("%lu fills, %lu cycles; word by word %lu\n", fills, cycles, words_alone);
+    if (memory[136 * COLUMNS + 24] >> 8 != AMBER) {
+        printf("the mark is lost\n");
+        return 1;
+    }
+    return 0;
+}

@@ -1,0 +1,160 @@
+/* Linkshoar: a proved stand-in for one TMS55161 video RAM and one Am81C176 palette, and a planner of shortest fills.
+ *
+ * The caller holds the states and lends the memory; nothing is allocated, nothing is kept, and no call blocks. A state goes in by value
+ * and the new one comes back in the answer. Every call takes every input: what it cannot do it refuses with a number, and a refusal
+ * changes nothing that was lent and hands the state back as it came.
+ *
+ * What C owes: lengths that are true, slices that do not overlap, and yes-or-no bytes of 0 or 1 inside a state (a state with another is
+ * refused with 1). A yes-or-no argument takes any number. Null with length 0 is a lawful empty slice.
+ */
+#ifndef LINKSHOAR_H
+#define LINKSHOAR_H
+
+#include <stddef.h>
+#include <stdint.h>
+
+#ifdef __cplusplus
+extern "C" {
+#endif
+
+#define LINKSHOAR_VERSION "4.0.0"
+
+/* The numbers given back. Where several apply the lowest is given. */
+enum {
+    LINKSHOAR_DONE = 0,
+    LINKSHOAR_STATE_EXCLUDED = 1,
+    LINKSHOAR_MEMORY_LENGTH = 2,
+    LINKSHOAR_REGISTER_LENGTH = 3,
+    LINKSHOAR_FIELD_UNREADABLE = 4,
+    LINKSHOAR_ROW_NOT_FITTED = 5,
+    LINKSHOAR_COLUMN_OVER = 6,
+    LINKSHOAR_STROBES_OTHER = 7,
+    LINKSHOAR_MASKING_OTHER = 8,
+    LINKSHOAR_HALF_OR_TAP_OVER = 9,
+    LINKSHOAR_NOT_LOADED = 10,
+    LINKSHOAR_SELECT_OTHER = 11,
+    LINKSHOAR_RECTANGLE_OUTSIDE = 12,
+    LINKSHOAR_FILL_PERSISTENT = 13,
+    LINKSHOAR_RUN_OVER = 14,
+    LINKSHOAR_BUFFER_SHORT = 15
+};
+
+/* Sizes that have room for everything. */
+enum {
+    LINKSHOAR_COLUMNS = 512,        /* words to a row */
+    LINKSHOAR_ROWS = 512,           /* rows at most */
+    LINKSHOAR_SERIAL_WORDS = 256,   /* the serial register */
+    LINKSHOAR_TABLE_BYTES = 768,    /* the palette's table: red, green, blue of 256 entries */
+    LINKSHOAR_LIST_BYTES = 851974   /* the longest list that a fill writes */
+};
+
+/* The video RAM's registers. waiting: 0 none, 1 tap; where nothing waits tap is 0. */
+typedef struct {
+    uint16_t colour, mask;
+    uint8_t persistent, loaded, pointer, waiting, tap;
+} linkshoar_vram;
+
+/* The palette's registers. */
+typedef struct {
+    uint8_t address, phase, red, green, blue, mask;
+} linkshoar_palette;
+
+typedef struct {
+    uint32_t number, bytes, cycles;
+} linkshoar_filled;
+
+typedef struct {
+    linkshoar_vram state;
+    uint32_t number;
+    uint64_t place; /* of a refused list: the offset of the field that is refused */
+} linkshoar_ran;
+
+typedef struct {
+    linkshoar_vram state;
+    uint32_t number;
+} linkshoar_shown;
+
+typedef struct {
+    linkshoar_vram state;
+    uint16_t word;
+    uint32_t number;
+} linkshoar_clocked;
+
+typedef struct {
+    uint32_t number;
+    uint16_t word;
+} linkshoar_word;
+
+typedef struct {
+    linkshoar_palette state;
+    uint8_t byte;
+    uint32_t number;
+} linkshoar_accessed;
+
+typedef struct {
+    uint32_t number;
+    uint8_t byte;
+} linkshoar_byte;
+
+/* The states at power-on: zeros, and a pixel mask of 255. */
+linkshoar_vram linkshoar_vram_fresh(void);
+linkshoar_palette linkshoar_palette_fresh(void);
+
+/* Plans a fill of rows first_row up to end_row and columns first_column up to end_column (ends not included): writes the shortest list
+ * that gives the rectangle's bits of mask the colour's. persistent: whether the mask register is, 0 no. Refused with 2, 12, 13, 15. */
+linkshoar_filled linkshoar_fill(uint32_t rows, uint32_t first_row, uint32_t end_row, uint32_t first_column, uint32_t end_column,
+                                uint16_t mask, uint16_t colour, uint32_t persistent, uint8_t *list, size_t length);
+
+/* Checks a list whole, then runs it in order. Refused with 1 to 10. */
+linkshoar_ran linkshoar_list_run(linkshoar_vram state, uint16_t *memory, size_t words, uint16_t *serial, size_t serial_words,
+                                 const uint8_t *list, size_t length);
+
+/* Reads a word; strobes: 1 low byte, 2 high byte, 3 both, and a byte not strobed is 0. Refused with 2, 5, 6, 7. */
+linkshoar_word linkshoar_word_read(const uint16_t *memory, size_t words, uint32_t row, uint32_t column, uint32_t strobes);
+
+/* One serial clock: answers the word at the pointer, which then moves. Refused with 1, 3, 10. */
+linkshoar_clocked linkshoar_serial_clock(linkshoar_vram state, const uint16_t *serial, size_t serial_words);
+
+/* A run of 0 to 512 clocks to the panel: three bytes a clock at the start of out, zeros where blank is not 0.
+ * Refused with 1, 3, 10, 14, 15. */
+linkshoar_shown linkshoar_panel_run(linkshoar_vram state, const uint16_t *serial, size_t serial_words, linkshoar_palette palette,
+                                    const uint8_t *table, size_t table_bytes, uint32_t clocks, uint32_t blank, uint8_t *out,
+                                    size_t out_bytes);
+
+/* Palette accesses. A write is refused with 1, 3, 11, a read with 1, 11. */
+linkshoar_accessed linkshoar_palette_write(linkshoar_palette state, uint8_t *table, size_t table_bytes, uint32_t select, uint8_t value);
+linkshoar_accessed linkshoar_palette_read(linkshoar_palette state, uint32_t select);
+
+/* The same with the state lent, from the palette's own archive, libpalette.a. */
+uint32_t linkshoar_palette_write_lent(linkshoar_palette *state, uint8_t *table, size_t table_bytes, uint32_t select, uint8_t value);
+linkshoar_byte linkshoar_palette_read_lent(linkshoar_palette *state, uint32_t select);
+
+/* What a number means, in a few words. */
+static inline const char *linkshoar_strerror(uint32_t number)
+{
+    switch (number) {
+    case LINKSHOAR_DONE: return "done";
+    case LINKSHOAR_STATE_EXCLUDED: return "a state that the rules exclude";
+    case LINKSHOAR_MEMORY_LENGTH: return "memory length or rows fitted not 1 to 512 rows";
+    case LINKSHOAR_REGISTER_LENGTH: return "serial register not 256 words, or palette table not 768 bytes";
+    case LINKSHOAR_FIELD_UNREADABLE: return "unknown tag, wrong length or a field cut short";
+    case LINKSHOAR_ROW_NOT_FITTED: return "row not fitted";
+    case LINKSHOAR_COLUMN_OVER: return "column over 511";
+    case LINKSHOAR_STROBES_OTHER: return "strobes not 1 to 3";
+    case LINKSHOAR_MASKING_OTHER: return "masking not 0 or 1, or plain with a mask";
+    case LINKSHOAR_HALF_OR_TAP_OVER: return "half or tap over its range";
+    case LINKSHOAR_NOT_LOADED: return "no full transfer made before";
+    case LINKSHOAR_SELECT_OTHER: return "no such select";
+    case LINKSHOAR_RECTANGLE_OUTSIDE: return "rectangle outside the rows fitted or 512 columns";
+    case LINKSHOAR_FILL_PERSISTENT: return "fill while the mask is persistent";
+    case LINKSHOAR_RUN_OVER: return "run over 512 clocks";
+    case LINKSHOAR_BUFFER_SHORT: return "answer buffer too short";
+    default: return "unknown number";
+    }
+}
+
+#ifdef __cplusplus
+}
+#endif
+
+#endif

@@ -1,0 +1,54 @@
+/* Runs each list of the corpus on 64 rows and a fresh state, by the archive and by the second implementation, and compares all that they
+ * answer and leave. A file is named NAME-number-place.list after what document 01 asks for it. */
+#include "model.h"
+
+#include <stdio.h>
+#include <stdlib.h>
+#include <string.h>
+
+enum { WORDS = 64 * 512 };
+
+static uint16_t memory_a[WORDS], memory_b[WORDS], serial_a[256], serial_b[256];
+
+static int try_file(const char *path)
+{
+    static uint8_t list[65536];
+    unsigned number, place;
+    const char *end = strrchr(path, '.'), *at = end;
+    FILE *file = fopen(path, "rb");
+    if (!file) {
+        perror(path);
+        return 1;
+    }
+    size_t bytes = fread(list, 1, sizeof list, file);
+    fclose(file);
+    for (int dashes = 0; at > path && dashes < 2;)
+        dashes += *--at == '-';
+    if (sscanf(at, "-%u-%u", &number, &place) != 2) {
+        printf("%s: no number and place in its name\n", path);
+        return 1;
+    }
+    for (unsigned i = 0; i < WORDS; i++)
+        memory_a[i] = memory_b[i] = (uint16_t)(i * 40503u >> 3);
+    for (unsigned i = 0; i < 256; i++)
+        serial_a[i] = serial_b[i] = (uint16_t)(i * 25 + 7);
+    linkshoar_ran a = linkshoar_list_run(linkshoar_vram_fresh(), memory_a, WORDS, serial_a, 256, list, bytes);
+    linkshoar_ran b = model_list_run(model_vram_fresh(), memory_b, WORDS, serial_b, 256, list, bytes);
+    if (a.number != number || a.place != place || b.number != number || b.place != place || memcmp(&a.state, &b.state, 9) ||
+        memcmp(memory_a, memory_b, sizeof memory_a) || memcmp(serial_a, serial_b, sizeof serial_a)) {
+        printf("DIFFERENCE: %s: %u at %u wanted, the archive %u at %u, the second implementation %u at %u\n", path, number, place, a.number,
+               (unsigned)a.place, b.number, (unsigned)b.place);
+        return 1;
+    }
+    return 0;
+}
+
+int main(int argc, char **argv)
+{
+    int bad = argc < 2;
+    for (int i = 1; i < argc; i++)
+        bad |= try_file(argv[i]);
+    if (!bad)
+        printf("%d lists of the corpus, no difference\n", argc - 1);
+    return bad;
+}

@@ -1,0 +1,51 @@
+/* The palette's entries with the state lent, from the palette's own archive, against the second implementation.
+ *   lent [calls] [seed] */
+#include "model.h"
+
+#include <stdio.h>
+#include <stdlib.h>
+#include <string.h>
+
+static uint64_t seed = 1;
+
+static uint32_t any(void)
+{
+    seed ^= seed << 13;
+    seed ^= seed >> 7;
+    seed ^= seed << 17;
+    return (uint32_t)(seed >> 24);
+}
+
+int main(int argc, char **argv)
+{
+    unsigned long most = argc > 1 ? strtoul(argv[1], NULL, 10) : 100000, seen[16] = {0};
+    seed = 0x9E3779B97F4A7C15u ^ (argc > 2 ? strtoull(argv[2], NULL, 10) : 1);
+    linkshoar_palette held = model_palette_fresh(), expected = held;
+    uint8_t table[800], other[800];
+    memset(table, 0, sizeof table);
+    memset(other, 0, sizeof other);
+    for (unsigned long i = 0; i < most; i++) {
+        uint32_t select = any() % 9 ? any() % 4 : any() % 2 ? 257 : any();
+        size_t bytes = any() % 20 ? 768 : any() % 800;
+        uint8_t value = (uint8_t)any();
+        if (any() % 50 == 0) /* a state that the rules may exclude */
+            for (size_t k = 0; k < sizeof held; k++)
+                ((uint8_t *)&held)[k] = ((uint8_t *)&expected)[k] = (uint8_t)any();
+        uint32_t number = linkshoar_palette_write_lent(&held, table, bytes, select, value);
+        linkshoar_accessed wrote = model_palette_write(expected, other, bytes, select, value);
+        expected = wrote.state;
+        linkshoar_byte read = linkshoar_palette_read_lent(&held, select);
+        linkshoar_accessed answered = model_palette_read(expected, select);
+        expected = answered.state;
+        if (number != wrote.number || read.number != answered.number || read.byte != answered.byte || memcmp(&held, &expected, sizeof held) ||
+            memcmp(table, other, sizeof table)) {
+            printf("DIFFERENCE after %lu calls\n", 2 * i);
+            return 1;
+        }
+        seen[number % 16]++;
+        if (number == 1) /* back to a lawful state */
+            held = expected = model_palette_fresh();
+    }
+    printf("%lu calls with the state lent, no difference; 0: %lu 1: %lu 3: %lu 11: %lu\n", 2 * most, seen[0], seen[1], seen[3], seen[11]);
+    return !(seen[0] && seen[1] && seen[3] && seen[11]);
+}

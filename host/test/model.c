@@ -1,0 +1,450 @@
+#include "model.h"
+
+#include <string.h>
+
+/* ---- states and lengths */
+
+static int bit(uint32_t n, int b)
+{
+    return (int)(n >> b & 1);
+}
+
+static int vram_allowed(linkshoar_vram s)
+{
+    if (s.persistent > 1 || s.loaded > 1 || s.waiting > 1)
+        return 0;
+    if (s.waiting == 0)
+        return s.tap == 0;
+    return s.loaded && (s.tap < 128) != (s.pointer < 128);
+}
+
+static int palette_allowed(linkshoar_palette p)
+{
+    return p.phase <= 2 && p.red <= 63 && p.green <= 63 && p.blue <= 63;
+}
+
+static int rows_fitted(size_t words)
+{
+    for (size_t rows = 1; rows <= 512; rows++)
+        if (words == 512 * rows)
+            return 1;
+    return 0;
+}
+
+linkshoar_vram model_vram_fresh(void)
+{
+    linkshoar_vram s;
+    memset(&s, 0, sizeof s);
+    return s;
+}
+
+linkshoar_palette model_palette_fresh(void)
+{
+    linkshoar_palette p;
+    memset(&p, 0, sizeof p);
+    p.mask = 255;
+    return p;
+}
+
+/* ---- cycles, as fields of a list */
+
+static unsigned pair(const uint8_t *at)
+{
+    return 256u * at[0] + at[1];
+}
+
+static int body_bytes(int tag)
+{
+    switch (tag) {
+    case 1: case 2: return 10;
+    case 3: case 4: return 3;
+    case 5: return 0;
+    case 6: case 7: return 4;
+    default: return -1;
+    }
+}
+
+/* What refuses the field at the start of these bytes. */
+static uint32_t field_number(const uint8_t *f, size_t left, size_t rows, int loaded)
+{
+    if (left < 3 || body_bytes(f[0]) < 0 || pair(f + 1) != (unsigned)body_bytes(f[0]) || left - 3 < pair(f + 1))
+        return 4;
+    const uint8_t *b = f + 3;
+    switch (f[0]) {
+    case 1: case 2:
+        if (pair(b) >= rows)
+            return 5;
+        if (pair(b + 2) > 511)
+            return 6;
+        if (b[9] < 1 || b[9] > 3)
+            return 7;
+        if (b[6] > 1 || (b[6] == 0 && pair(b + 7) != 0))
+            return 8;
+        return 0;
+    case 3: case 4:
+        return b[2] < 1 || b[2] > 3 ? 7 : 0;
+    case 6:
+        if (pair(b) >= rows)
+            return 5;
+        return b[2] > 1 ? 9 : 0;
+    case 7:
+        if (pair(b) >= rows)
+            return 5;
+        if (b[2] > 1 || b[3] > 127)
+            return 9;
+        return loaded ? 0 : 10;
+    default:
+        return 0;
+    }
+}
+
+/* Whether strobes and mask in force let bit i through. */
+static int let_through(linkshoar_vram s, int masking, unsigned mask, int strobes, int i)
+{
+    unsigned force = 0xFFFF;
+    if (masking == 1)
+        force = s.persistent ? s.mask : mask;
+#if FAULT == 2 /* the mask given with the cycle used while the mask is persistent */
+    if (masking == 1)
+        force = mask;
+#endif
+#if FAULT == 3 /* plain writes masked in persistent mode */
+    if (masking == 0 && s.persistent)
+        force = s.mask;
+#endif
+    return bit((unsigned)strobes, i / 8) && bit(force, i);
+}
+
+static void put_bit(uint16_t *word, int i, int value)
+{
+    *word = (uint16_t)((*word & ~(1u << i)) | (unsigned)value << i);
+}
+
+static void run_field(linkshoar_vram *s, uint16_t *memory, uint16_t *serial, const uint8_t *f)
+{
+    const uint8_t *b = f + 3;
+    switch (f[0]) {
+    case 1:
+        for (int i = 0; i < 16; i++)
+            if (let_through(*s, b[6], pair(b + 7), b[9], i))
+                put_bit(&memory[512 * pair(b) + pair(b + 2)], i, bit(pair(b + 4), i));
+        break;
+    case 2:
+        for (int j = 0; j < 4; j++)
+            for (int i = 0; i < 16; i++) {
+                int column = bit(pair(b + 4), 4 * (i / 4) + j);
+#if FAULT == 1 /* one four-bit column mask for all quads */
+                column = bit(pair(b + 4), j);
+#endif
+#if FAULT == 6 /* byte strobes ignored on block writes: version one */
+                if (column && let_through(*s, b[6], pair(b + 7), 3, i))
+#else
+                if (column && let_through(*s, b[6], pair(b + 7), b[9], i))
+#endif
+                    put_bit(&memory[512 * pair(b) + pair(b + 2) / 4 * 4 + (unsigned)j], i, bit(s->colour, i));
+            }
+        break;
+    case 3:
+        for (int i = 0; i < 16; i++)
+            if (bit(b[2], i / 8))
+                put_bit(&s->colour, i, bit(pair(b), i));
+        break;
+    case 4:
+        for (int i = 0; i < 16; i++)
+            if (bit(b[2], i / 8))
+                put_bit(&s->mask, i, bit(pair(b), i));
+        s->persistent = 1;
+        break;
+    case 5:
+        s->persistent = 0;
+        break;
+    case 6:
+        for (unsigned i = 0; i < 256; i++)
+            serial[i] = memory[512 * pair(b) + 256u * b[2] + i];
+        s->loaded = 1;
+        s->pointer = b[3];
+        s->waiting = 0;
+        s->tap = 0;
+        break;
+    default: {
+        unsigned h = s->pointer < 128 ? 1 : 0;
+#if FAULT == 4 /* a second split transfer before the boundary ignored */
+        if (s->waiting)
+            break;
+#endif
+        for (unsigned i = 0; i < 128; i++)
+            serial[128 * h + i] = memory[512 * pair(b) + 256u * b[2] + 128 * h + i];
+        s->waiting = 1;
+        s->tap = (uint8_t)(128 * h + b[3]);
+    }
+    }
+}
+
+linkshoar_ran model_list_run(linkshoar_vram state, uint16_t *memory, size_t words, uint16_t *serial, size_t serial_words,
+                             const uint8_t *list, size_t length)
+{
+    linkshoar_ran r;
+    memset(&r, 0, sizeof r);
+    r.state = state;
+    if (!vram_allowed(state))
+        r.number = 1;
+    else if (!rows_fitted(words))
+        r.number = 2;
+    else if (serial_words != 256)
+        r.number = 3;
+    if (r.number)
+        return r;
+    int loaded = state.loaded;
+    for (size_t at = 0; at < length; at += 3 + pair(list + at + 1)) {
+        r.number = field_number(list + at, length - at, words / 512, loaded);
+        if (r.number) {
+            r.place = at;
+            return r;
+        }
+        if (list[at] == 6)
+            loaded = 1;
+    }
+    for (size_t at = 0; at < length; at += 3 + pair(list + at + 1))
+        run_field(&r.state, memory, serial, list + at);
+    return r;
+}
+
+/* ---- word read and serial clock */
+
+linkshoar_word model_word_read(const uint16_t *memory, size_t words, uint32_t row, uint32_t column, uint32_t strobes)
+{
+    linkshoar_word r;
+    memset(&r, 0, sizeof r);
+    if (!rows_fitted(words))
+        r.number = 2;
+    else if (row >= words / 512)
+        r.number = 5;
+    else if (column > 511)
+        r.number = 6;
+    else if (strobes < 1 || strobes > 3)
+        r.number = 7;
+    else
+        for (int i = 0; i < 16; i++)
+            if (bit(strobes, i / 8))
+                put_bit(&r.word, i, bit(memory[512 * row + column], i));
+    return r;
+}
+
+static void clock_once(linkshoar_vram *s)
+{
+    if ((s->pointer == 127 || s->pointer == 255) && s->waiting) {
+        s->pointer = s->tap;
+        s->waiting = 0;
+        s->tap = 0;
+    } else {
+        s->pointer = s->pointer == 255 ? 0 : (uint8_t)(s->pointer + 1);
+    }
+}
+
+linkshoar_clocked model_serial_clock(linkshoar_vram state, const uint16_t *serial, size_t serial_words)
+{
+    linkshoar_clocked r;
+    memset(&r, 0, sizeof r);
+    r.state = state;
+    if (!vram_allowed(state))
+        r.number = 1;
+    else if (serial_words != 256)
+        r.number = 3;
+    else if (!state.loaded)
+        r.number = 10;
+    else {
+        r.word = serial[state.pointer];
+        clock_once(&r.state);
+    }
+    return r;
+}
+
+/* ---- palette and panel */
+
+linkshoar_accessed model_palette_write(linkshoar_palette state, uint8_t *table, size_t table_bytes, uint32_t select, uint8_t value)
+{
+    linkshoar_accessed r;
+    memset(&r, 0, sizeof r);
+    r.state = state;
+    if (!palette_allowed(state))
+        r.number = 1;
+    else if (table_bytes != 768)
+        r.number = 3;
+    else if (select > 3)
+        r.number = 11;
+    if (r.number)
+        return r;
+    linkshoar_palette *p = &r.state;
+    if (select == 0 || select == 3) {
+        p->address = value;
+#if FAULT != 5 /* palette phase kept across an address write: version two */
+        p->phase = 0;
+#endif
+    }
+    if (select == 3) {
+        p->red = table[3 * p->address] % 64;
+        p->green = table[3 * p->address + 1] % 64;
+        p->blue = table[3 * p->address + 2] % 64;
+        p->address++;
+    }
+    if (select == 2)
+        p->mask = value;
+    if (select == 1) {
+        if (p->phase == 0)
+            p->red = value % 64;
+        else if (p->phase == 1)
+            p->green = value % 64;
+        else
+            p->blue = value % 64;
+        if (p->phase++ == 2) {
+            table[3 * p->address] = p->red;
+            table[3 * p->address + 1] = p->green;
+            table[3 * p->address + 2] = p->blue;
+            p->address++;
+            p->phase = 0;
+        }
+    }
+    return r;
+}
+
+linkshoar_accessed model_palette_read(linkshoar_palette state, uint32_t select)
+{
+    linkshoar_accessed r;
+    memset(&r, 0, sizeof r);
+    r.state = state;
+    if (!palette_allowed(state))
+        r.number = 1;
+    else if (select > 2)
+        r.number = 11;
+    else if (select == 0)
+        r.byte = state.address;
+    else if (select == 2)
+        r.byte = state.mask;
+    else {
+        r.byte = state.phase == 0 ? state.red : state.phase == 1 ? state.green : state.blue;
+        r.state.phase = (uint8_t)((state.phase + 1) % 3);
+    }
+    return r;
+}
+
+linkshoar_shown model_panel_run(linkshoar_vram state, const uint16_t *serial, size_t serial_words, linkshoar_palette palette,
+                                const uint8_t *table, size_t table_bytes, uint32_t clocks, uint32_t blank, uint8_t *out, size_t out_bytes)
+{
+    linkshoar_shown r;
+    memset(&r, 0, sizeof r);
+    r.state = state;
+    if (!vram_allowed(state) || !palette_allowed(palette))
+        r.number = 1;
+    else if (serial_words != 256 || table_bytes != 768)
+        r.number = 3;
+    else if (clocks && !state.loaded)
+        r.number = 10;
+    else if (clocks > 512)
+        r.number = 14;
+    else if (out_bytes < 3 * (size_t)clocks)
+        r.number = 15;
+    if (r.number)
+        return r;
+    for (uint32_t i = 0; i < clocks; i++) {
+        unsigned word = serial[r.state.pointer];
+        unsigned entry = (word / 256 ? word / 256 : word % 256) & palette.mask;
+        for (int part = 0; part < 3; part++)
+            out[3 * i + (uint32_t)part] = blank ? 0 : table[3 * entry + (unsigned)part] % 64;
+        clock_once(&r.state);
+    }
+    return r;
+}
+
+/* ---- fills */
+
+typedef struct {
+    uint8_t *list;
+    size_t room, bytes;
+    uint32_t cycles;
+} writer;
+
+static void byte(writer *w, unsigned value)
+{
+    if (w->bytes < w->room)
+        w->list[w->bytes] = (uint8_t)value;
+    w->bytes++;
+}
+
+static void two(writer *w, unsigned value)
+{
+    byte(w, value / 256);
+    byte(w, value % 256);
+}
+
+static void write_field(writer *w, unsigned tag, unsigned row, unsigned column, unsigned value, unsigned mask)
+{
+    byte(w, tag);
+    two(w, 10);
+    two(w, row);
+    two(w, column);
+    two(w, value);
+    byte(w, 1);
+    two(w, mask);
+    byte(w, 3);
+    w->cycles++;
+}
+
+static void plan(writer *w, uint32_t first_row, uint32_t end_row, uint32_t first_column, uint32_t end_column, unsigned mask, unsigned colour)
+{
+    size_t words = 0, blocks = 0;
+    for (uint32_t row = first_row; row < end_row; row++)
+        for (uint32_t column = first_column; column < end_column; column++) {
+            words++;
+            if (column == first_column || column % 4 == 0)
+                blocks++;
+        }
+    if (mask == 0 || words == 0)
+        return;
+    if (words <= 1 + blocks) {
+        for (uint32_t row = first_row; row < end_row; row++)
+            for (uint32_t column = first_column; column < end_column; column++)
+                write_field(w, 1, row, column, colour, mask);
+        return;
+    }
+    byte(w, 3);
+    two(w, 3);
+    two(w, colour);
+    byte(w, 3);
+    w->cycles++;
+    for (uint32_t row = first_row; row < end_row; row++)
+        for (uint32_t block = 0; block < 128; block++) {
+            unsigned columns = 0;
+            for (uint32_t j = 0; j < 4; j++)
+                if (4 * block + j >= first_column && 4 * block + j < end_column)
+                    columns |= 0x1111u << j;
+            if (columns)
+                write_field(w, 2, row, 4 * block, columns, mask);
+        }
+}
+
+linkshoar_filled model_fill(uint32_t rows, uint32_t first_row, uint32_t end_row, uint32_t first_column, uint32_t end_column, uint16_t mask,
+                            uint16_t colour, uint32_t persistent, uint8_t *list, size_t length)
+{
+    linkshoar_filled r = {0, 0, 0};
+    writer w = {list, 0, 0, 0};
+    if (rows < 1 || rows > 512)
+        r.number = 2;
+    else if (first_row > end_row || first_column > end_column || end_column > 512 || end_row > rows)
+        r.number = 12;
+    else if (persistent)
+        r.number = 13;
+    if (r.number)
+        return r;
+    plan(&w, first_row, end_row, first_column, end_column, mask, colour);
+    if (w.bytes > length) {
+        r.number = 15;
+        return r;
+    }
+    w.room = length;
+    w.bytes = 0;
+    w.cycles = 0;
+    plan(&w, first_row, end_row, first_column, end_column, mask, colour);
+    r.bytes = (uint32_t)w.bytes;
+    r.cycles = w.cycles;
+    return r;
+}

@@ -1,0 +1,25 @@
+/* A second implementation of document 01 in plain C, bit by bit, written from the rules and not from the proved code. The test program
+ * compares the two. FAULT plants one of the errors that document 01 lists: each must be found. */
+#ifndef MODEL_H
+#define MODEL_H
+
+#include "linkshoar.h"
+
+#ifndef FAULT
+#define FAULT 0
+#endif
+
+linkshoar_vram model_vram_fresh(void);
+linkshoar_palette model_palette_fresh(void);
+linkshoar_filled model_fill(uint32_t rows, uint32_t first_row, uint32_t end_row, uint32_t first_column, uint32_t end_column, uint16_t mask,
+                            uint16_t colour, uint32_t persistent, uint8_t *list, size_t length);
+linkshoar_ran model_list_run(linkshoar_vram state, uint16_t *memory, size_t words, uint16_t *serial, size_t serial_words,
+                             const uint8_t *list, size_t length);
+linkshoar_word model_word_read(const uint16_t *memory, size_t words, uint32_t row, uint32_t column, uint32_t strobes);
+linkshoar_clocked model_serial_clock(linkshoar_vram state, const uint16_t *serial, size_t serial_words);
+linkshoar_shown model_panel_run(linkshoar_vram state, const uint16_t *serial, size_t serial_words, linkshoar_palette palette,
+                                const uint8_t *table, size_t table_bytes, uint32_t clocks, uint32_t blank, uint8_t *out, size_t out_bytes);
+linkshoar_accessed model_palette_write(linkshoar_palette state, uint8_t *table, size_t table_bytes, uint32_t select, uint8_t value);
+linkshoar_accessed model_palette_read(linkshoar_palette state, uint32_t select);
+
+#endif
