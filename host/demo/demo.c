@@ -185,7 +185,7 @@ static void write_picture(const char *path)
     fwrite("\x89PNG\r\n\x1A\n", 1, 8, file);
     chunk(file, "IHDR", head, sizeof head);
     chunk(file, "IDAT", packed, (uint32_t)at + 4);
-    chunk(file, "IEND", NULL, 0);
+    chunk(file, "IEND", head, 0);
     fclose(file);
 }
 
