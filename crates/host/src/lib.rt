@@ -34,6 +34,7 @@ pub struct Registers {
     pub tap: u8,
 }
 
+// The state after a list, the number given back, and the offset of the field that it is about.
 #[repr(C)]
 pub struct Ran {
     pub state: Registers,
@@ -41,12 +42,14 @@ pub struct Ran {
     pub place: u64,
 }
 
+// The state after a run, and the number given back.
 #[repr(C)]
 pub struct Shown {
     pub state: Registers,
     pub number: u32,
 }
 
+// The state after a clock, the word answered, and the number given back.
 #[repr(C)]
 pub struct Clocked {
     pub state: Registers,
@@ -54,6 +57,7 @@ pub struct Clocked {
     pub number: u32,
 }
 
+// The registers at power-on.
 #[no_mangle]
 pub extern "C" fn linkshoar_vram_fresh() -> Registers
     ensures { λ r. ⌜ r ≡ handed freshVram ⌝ }
@@ -61,6 +65,7 @@ pub extern "C" fn linkshoar_vram_fresh() -> Registers
     hand(Vram::fresh())
 }
 
+// The palette's registers at power-on.
 #[no_mangle]
 pub extern "C" fn linkshoar_palette_fresh() -> Palette
     ensures { λ r. ⌜ r ≡ freshPalette ⌝ }
@@ -96,6 +101,7 @@ pub extern "C" fn linkshoar_fill(
     )
 }
 
+// A list, checked whole and then run in order.
 #[no_mangle]
 pub extern "C" fn linkshoar_list_run(
     state: Registers,
@@ -120,6 +126,7 @@ pub extern "C" fn linkshoar_list_run(
     }
 }
 
+// A word, with 0 in a byte not strobed.
 #[no_mangle]
 pub extern "C" fn linkshoar_word_read(memory: &[u16], row: u32, column: u32, strobes: u32) -> Word
     ensures { λ r. ⌜ r ≡ readCall (now (memory .entry)) row column strobes ⌝ }
@@ -127,6 +134,7 @@ pub extern "C" fn linkshoar_word_read(memory: &[u16], row: u32, column: u32, str
     vram::read(memory, row, column, strobes)
 }
 
+// One serial clock.
 #[no_mangle]
 pub extern "C" fn linkshoar_serial_clock(state: Registers, serial: &[u16]) -> Clocked
     ensures { λ r. ⌜ r ≡ clockCall state (now (serial .entry)) ⌝ }
@@ -146,6 +154,7 @@ pub extern "C" fn linkshoar_serial_clock(state: Registers, serial: &[u16]) -> Cl
     }
 }
 
+// A run to the panel, shown, or blanked where blank is not 0.
 #[no_mangle]
 pub extern "C" fn linkshoar_panel_run(
     state: Registers,
@@ -171,6 +180,7 @@ pub extern "C" fn linkshoar_panel_run(
     }
 }
 
+// A palette write. Any bytes that C hands over are a `Palette`, so its state needs no test here.
 #[no_mangle]
 pub extern "C" fn linkshoar_palette_write(
     state: Palette,
@@ -183,6 +193,7 @@ pub extern "C" fn linkshoar_palette_write(
     state.write(table, select, value)
 }
 
+// A palette read.
 #[no_mangle]
 pub extern "C" fn linkshoar_palette_read(state: Palette, select: u32) -> Accessed
     ensures { λ r. ⌜ r ≡ paletteRead state select ⌝ }

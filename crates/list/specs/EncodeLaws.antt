@@ -2,24 +2,21 @@
 use mathlib.Core.Path.{_≡_, refl, ap, ap₂, _∙_}
 use mathlib.Core.Bool.{true}
 use mathlib.Core.List.{List, [], _∷_, _++_, map}
-use Prim.Native.Nat.{ℕ, suc, _+_, _*_, _/_, _%_, _≤_, _<_}
+use Prim.Native.Nat.{ℕ, suc, _+_, _*_, _/_, _%_, _≤_}
 use native.Mathlib.Omega.{arith}
 use native.Mathlib.Nat.{div-add-mod'}
-use lib.Dec.{leb}
 use lib.ListN.{length, drop, length-append, length-map}
 use lib.Seq.{take-append-le, take-all, drop-at}
-use borrow.Author.Tests.{le-leb, leb-true, eq-eqb}
+use borrow.Author.Tests.{le-leb, eq-eqb}
 use Rattle.vram.specs.declared.Cycle.{Cycle}
 use Rattle.vram.specs.declared.Cycle.the-variants.{WordWrite, BlockWrite, LoadColour, LoadMask, ResetRefresh, FullTransfer, SplitTransfer}
 use Rattle.vram.specs.Kinds.{tagOf}
-use Rattle.numbers.specs.Between.{both}
 use Rattle.vram.specs.CaseLaws.{tag-word, tag-block, tag-colour, tag-mask, tag-reset, tag-full, tag-split}
 use Rattle.list.specs.Tags.{word, known, lenOf, cycleOf}
-use Rattle.list.specs.TagLaws.{len-most}
 use Rattle.list.specs.Fields.{Field, Reads, body, whole, fieldOf, parts, fields}
 use Rattle.list.specs.FieldLaws.{field-whole, fields-whole}
 use Rattle.list.specs.Meaning.{cycles, cyclesOf, countOf}
-use Rattle.list.specs.Encode.{two, bodyOf, encode, encodeAll, Bytes, Widths}
+use Rattle.list.specs.Encode.{two, bodyOf, encode, encodeAll}
 
 -- ---- tag by tag
 
@@ -117,38 +114,3 @@ cycles-encodeAll cs = ap cycles (fields-encodeAll cs) ∙ written-cycles cs
 
 pub count-encodeAll : (cs : List Cycle) → countOf (encodeAll cs) ≡ length cs
 count-encodeAll cs = ap length (fields-encodeAll cs) ∙ length-map cs written
-
--- ---- numbers of their widths are written as bytes
-
-bytes-one : (n : ℕ) (s : List ℕ) → n < 256 → Bytes s → Bytes (n ∷ s)
-unfolding Bytes
-bytes-one n s h k = (h, k)
-
-bytes-two : (n : ℕ) (s : List ℕ) → n < 65536 → Bytes s → Bytes (two n s)
-bytes-two n s h k = bytes-one (n / 256) (n % 256 ∷ s) (omega arith) (bytes-one (n % 256) s (omega arith) k)
-
-bytes-none : Bytes []
-unfolding Bytes
-bytes-none = tt
-
-body-bytes : (c : Cycle) → Widths c → Bytes (bodyOf c)
-unfolding bodyOf Widths
-body-bytes (WordWrite row column bits masking mask strobes) (a, b, d, e, f, g) =
-    bytes-two row _ a (bytes-two column _ b (bytes-two bits _ d (bytes-one masking _ e (bytes-two mask _ f (bytes-one strobes [] g bytes-none)))))
-body-bytes (BlockWrite row column columns masking mask strobes) (a, b, d, e, f, g) =
-    bytes-two row _ a (bytes-two column _ b (bytes-two columns _ d (bytes-one masking _ e (bytes-two mask _ f (bytes-one strobes [] g bytes-none)))))
-body-bytes (LoadColour bits strobes) (a, b) = bytes-two bits _ a (bytes-one strobes [] b bytes-none)
-body-bytes (LoadMask bits strobes) (a, b) = bytes-two bits _ a (bytes-one strobes [] b bytes-none)
-body-bytes ResetRefresh w = bytes-none
-body-bytes (FullTransfer row half tap) (a, b, d) = bytes-two row _ a (bytes-one half _ b (bytes-one tap [] d bytes-none))
-body-bytes (SplitTransfer row half tap) (a, b, d) = bytes-two row _ a (bytes-one half _ b (bytes-one tap [] d bytes-none))
-
-tag-most : (t : ℕ) → known t ≡ true → t ≤ 7
-unfolding known
-tag-most t h = leb-true t 7 (both (leb 1 t) (leb t 7) h .1)
-
-pub encode-bytes : (c : Cycle) → Widths c → Bytes (encode c)
-unfolding encode
-encode-bytes c w =
-    bytes-one (tagOf c) _ (omega (arith, tag-most (tagOf c) (known-tag c)))
-    (bytes-two (lenOf (tagOf c)) _ (omega (arith, len-most (tagOf c))) (body-bytes c w))
