@@ -19,7 +19,7 @@ extern "C" {
 
 #define LINKSHOAR_VERSION "4.0.0"
 
-/* The numbers given back. Where several apply the lowest is given. */
+/* The numbers given back. Where several apply the lowest is given; in a list the first bad field wins, then its lowest number. */
 enum {
     LINKSHOAR_DONE = 0,
     LINKSHOAR_STATE_EXCLUDED = 1,
@@ -39,7 +39,7 @@ enum {
     LINKSHOAR_BUFFER_SHORT = 15
 };
 
-/* Sizes that have room for everything. */
+/* Sizes. */
 enum {
     LINKSHOAR_COLUMNS = 512,        /* words to a row */
     LINKSHOAR_ROWS = 512,           /* rows at most */
@@ -66,7 +66,7 @@ typedef struct {
 typedef struct {
     linkshoar_vram state;
     uint32_t number;
-    uint64_t place; /* of a refused list: the offset of the field that is refused */
+    uint64_t place; /* of 4 to 10: the offset of the field that is refused; else 0 */
 } linkshoar_ran;
 
 typedef struct {

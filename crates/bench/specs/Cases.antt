@@ -32,10 +32,10 @@ pub data Case : Type 0 where
   palette : (writes : List (ℕ × ℕ)) (state : Palette) (table : List ℕ) → Case
   -- columns of a fill of one row, M FFFF, not persistent, the number of cycles and the cycles
   fill-row : (firstColumn endColumn cycles : ℕ) (list : List Cycle) → Case
-  -- a row of 512 fitted, and the number given
+  -- of 512 rows fitted: a row that is accepted, one that is refused, and its number
   row : (accepted refused number : ℕ) → Case
 
--- colour A5C3, and a row of zeros
+-- colour A5C3, a memory, and a serial register of zeros
 abbrev pub coloured : List ℕ → Board
 coloured m = board (withColour fresh 0xA5C3) m (replicate 256 0)
 

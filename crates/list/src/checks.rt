@@ -1,4 +1,4 @@
-// The check of a list: its bytes are read and `vram` is asked what it refuses, field by field.
+// The check of a list: its bytes are read and `refusals` is asked, field by field.
 ghost use mathlib.Core.Path.{_≡_};
 ghost use Prim.Native.Nat.{_+_, _<_};
 ghost use lib.ListN.{length};

@@ -1,4 +1,4 @@
-// A state with one thing changed: the only functions that write a state out. The rule, the phase, and A.
+// A state with one thing changed; every access changes a state by these. The rule, the phase, and A.
 ghost use mathlib.Core.Path.{_≡_};
 ghost use Rattle.palette.specs.Table.{colour};
 ghost use Rattle.palette.specs.State.{withAddress, withPhase, withColours, withMask, ruled, register, withRegister, advanced, moved};

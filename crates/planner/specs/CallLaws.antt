@@ -65,7 +65,7 @@ asked-sound f e =
 
 -- ---- a list into a buffer
 
-abbrev filled : ℕ → ℕ → ℕ → Filled
+abbrev pub filled : ℕ → ℕ → ℕ → Filled
 filled n bytes cycles = record { number = n; bytes = bytes; cycles = cycles }
 
 module _ (bytes : List ℕ) (cycles : ℕ) (out : List ℕ) where
@@ -85,6 +85,11 @@ module _ (bytes : List ℕ) (cycles : ℕ) (out : List ℕ) where
 -- ---- the call
 
 module _ (f : Fill) (out : List ℕ) where
+  -- a refusal answers zeros and writes nothing
+  pub fill-refused : fillRefusal f (length out) ≢ 0 → fillCall f out ≡ outcome (filled (fillRefusal f (length out)) 0 0) out
+  unfolding fillCall
+  fill-refused h = sym (refuses (listOf f) (length (plan f)) out (fillRefusal f (length out)) h)
+
   -- 2, 12 or 13
   pub fill-refuses : (n : ℕ) → n ≡ askedRefusal f → n ≢ 0 → outcome (filled n 0 0) out ≡ fillCall f out
   unfolding fillCall

@@ -1,4 +1,4 @@
-// The serial port: the clock, and how a run of clocks moves. The tap is matched and the pointer advanced here and nowhere else.
+// The serial port: the clock, and how a run of clocks moves. The tap is used up and the pointer advanced here and nowhere else.
 ghost use mathlib.Core.Path.{_≡_};
 ghost use Prim.Native.Nat.{_<_};
 ghost use Rattle.vram.specs.Serial.{half, after, through, clocks};
