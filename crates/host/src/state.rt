@@ -7,7 +7,7 @@ use vram::Vram;
 use vram::Waiting;
 
 // Whether a `Vram` can be so: yes-or-no bytes of 0 or 1, and no tap where nothing waits.
-pub fn lawful(state: Registers) -> bool
+pub(crate) fn lawful(state: Registers) -> bool
     ensures { λ r. ⌜ r ≡ lawful state ⌝ }
 {
     (state.persistent <= 1)
@@ -26,7 +26,7 @@ fn waiting_of(waiting: u8, tap: u8) -> Waiting
     }
 }
 
-pub fn take(state: Registers) -> Vram
+pub(crate) fn take(state: Registers) -> Vram
     ensures { λ r. ⌜ r ≡ taken state ⌝ }
 {
     let waiting = waiting_of(state.waiting, state.tap);
@@ -47,7 +47,7 @@ fn byte(yes: bool) -> u8
     if yes { 1 } else { 0 }
 }
 
-pub fn hand(state: Vram) -> Registers
+pub(crate) fn hand(state: Vram) -> Registers
     ensures { λ r. ⌜ r ≡ handed state ⌝ }
 {
     let waiting = state.waiting;

@@ -24,7 +24,7 @@ fn all_quads(columns: u16) -> u16
     4369 * columns
 }
 
-pub fn columns_of(first_column: u32, end_column: u32, block: u32) -> u16
+pub(crate) fn columns_of(first_column: u32, end_column: u32, block: u32) -> u16
     requires { ⌜ block < 128 ⌝ }
     ensures { λ r. ⌜ r ≡ columnsIn «first_column» «end_column» block ⌝ }
 {

@@ -12,7 +12,7 @@ use super::rows::put_word_rows;
 use super::writes::put_load;
 
 // A word write for each word.
-pub fn put_words(
+pub(crate) fn put_words(
     list: &mut [u8],
     row: u32,
     height: u32,
@@ -42,7 +42,7 @@ pub fn put_words(
 }
 
 // A colour load, and a block write for each block. What the first and the last block of a row cover is worked out once.
-pub fn put_blocks(
+pub(crate) fn put_blocks(
     list: &mut [u8],
     row: u32,
     height: u32,

@@ -15,7 +15,7 @@ fn place_of(row: u32, column: u32) -> u32
 }
 
 // Rows of word writes, from the start of the buffer.
-pub fn put_word_rows(
+pub(crate) fn put_word_rows(
     list: &mut [u8],
     row: u32,
     height: u32,
@@ -79,7 +79,7 @@ fn put_block_row(
 }
 
 // Rows of block writes, after the colour load.
-pub fn put_block_rows(
+pub(crate) fn put_block_rows(
     list: &mut [u8],
     row: u32,
     height: u32,

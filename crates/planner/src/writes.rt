@@ -39,7 +39,7 @@ fn put_rest(list: &mut [u8], at: usize, value: u16, mask: u16)
 }
 
 // A word write (tag 1) or a block write (tag 2). The place is stored first: its four bytes are then one store of the machine.
-pub fn put_write(list: &mut [u8], at: usize, tag: u8, place: u32, value: u16, mask: u16)
+pub(crate) fn put_write(list: &mut [u8], at: usize, tag: u8, place: u32, value: u16, mask: u16)
     requires { ⌜ at + 13 ≤ length (now list) ⌝ }
     ensures { λ r. ⌜ now (list .exit) ≡ sets (now (list .entry)) at (writeAt tag place value mask) ⌝ }
 {
@@ -49,7 +49,7 @@ pub fn put_write(list: &mut [u8], at: usize, tag: u8, place: u32, value: u16, ma
 }
 
 // n writes of one value, the place going up by a step.
-pub fn put_row(
+pub(crate) fn put_row(
     list: &mut [u8],
     at: usize,
     tag: u8,
@@ -74,7 +74,7 @@ pub fn put_row(
 }
 
 // A colour load with both strobes, at the start of the buffer.
-pub fn put_load(list: &mut [u8], colour: u16)
+pub(crate) fn put_load(list: &mut [u8], colour: u16)
     requires { ⌜ 6 ≤ length (now list) ⌝ }
     ensures { λ r. ⌜ now (list .exit) ≡ sets (now (list .entry)) 0 (loadBytes colour) ⌝ }
 {
