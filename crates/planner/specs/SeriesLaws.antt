@@ -67,31 +67,31 @@ abbrev pub all : ℕ → ℕ → List ℕ
 all at n = series (λ x. x ∷ []) at n
 
 module _ (p : ℕ → Bool) where
-  picked-append : (m n at : ℕ) → picked p at (m + n) ≡ picked p at m ++ picked p (at + m) n
-  unfolding picked
-  picked-append zero n at =
-      let e : 0 + n ≡ n = omega arith in
-      ap₂ (λ (k x : ℕ). picked p x k) e (sym (add-zero at))
-  picked-append (suc m) n at =
-      let e : suc m + n ≡ suc (m + n) = omega arith in
-      let f : suc at + m ≡ at + suc m = omega arith in
-      ap (picked p at) e ∙ go (p at) (picked-append m n (suc at) ∙ ap (λ (x : ℕ). picked p (suc at) m ++ picked p x n) f)
+  abbrev kept : ℕ → List ℕ
+  kept x = cond (p x) (x ∷ []) []
+
+  picked-series : (n at : ℕ) → picked p at n ≡ series kept at n
+  unfolding picked series
+  picked-series zero at = refl
+  picked-series (suc n) at = go (p at) (picked-series n (suc at))
     where
-      go : (t : Bool) → picked p (suc at) (m + n) ≡ picked p (suc at) m ++ picked p (at + suc m) n
-          → cond t (at ∷ picked p (suc at) (m + n)) (picked p (suc at) (m + n))
-          ≡ cond t (at ∷ picked p (suc at) m) (picked p (suc at) m) ++ picked p (at + suc m) n
+      go : (t : Bool) → picked p (suc at) n ≡ series kept (suc at) n
+          → cond t (at ∷ picked p (suc at) n) (picked p (suc at) n) ≡ cond t (at ∷ []) [] ++ series kept (suc at) n
       go true i = ap (λ (l : List ℕ). at ∷ l) i
       go false i = i
 
+  picked-append : (m n at : ℕ) → picked p at (m + n) ≡ picked p at m ++ picked p (at + m) n
+  picked-append m n at =
+      picked-series (m + n) at
+      ∙ series-append kept m n at
+      ∙ sym (ap₂ (λ (x y : List ℕ). x ++ y) (picked-series m at) (picked-series n (at + m)))
+
   picked-all : (n at : ℕ) → ((x : ℕ) → at ≤ x → x < at + n → p x ≡ true) → picked p at n ≡ all at n
-  unfolding picked series
-  picked-all zero at e = refl
-  picked-all (suc n) at e = rw (e at (omega arith) (omega arith)) (ap (λ (l : List ℕ). at ∷ l) (picked-all n (suc at) (λ x h k. e x (omega arith) (omega arith))))
+  picked-all n at e = picked-series n at ∙ series-cong kept (λ x. x ∷ []) n at (λ x l u. ap (λ (t : Bool). cond t (x ∷ []) []) (e x l u))
 
   pub picked-none : (n at : ℕ) → ((x : ℕ) → at ≤ x → x < at + n → p x ≡ false) → picked p at n ≡ []
-  unfolding picked
-  picked-none zero at e = refl
-  picked-none (suc n) at e = rw (e at (omega arith) (omega arith)) (picked-none n (suc at) (λ x h k. e x (omega arith) (omega arith)))
+  picked-none n at e =
+      picked-series n at ∙ series-cong kept (λ x. []) n at (λ x l u. ap (λ (t : Bool). cond t (x ∷ []) []) (e x l u)) ∙ series-nothing n at
 
   -- a row of w numbers, of which those from lo up to hi pass
   picked-row : (w lo hi at : ℕ) → lo ≤ hi → hi ≤ w → ((c : ℕ) → c < w → p (at + c) ≡ between lo hi c) → picked p at w ≡ all (at + lo) (hi - lo)
