@@ -1,4 +1,5 @@
-/* Linkshoar: a proved stand-in for one TMS55161 video RAM and one Am81C176 palette, and a planner of shortest fills.
+/* Linkshoar: a proved stand-in for one TMS55161 video RAM and one Am81C176 palette, a planner of shortest fills, and for the older boards
+ * the counters of an Am8150.
  *
  * The caller holds the states and lends the memory; nothing is allocated, nothing is kept, and no call blocks. A state goes in by value
  * and the new one comes back in the answer. Every call takes every input: what it cannot do it refuses with a number, and a refusal
@@ -17,7 +18,7 @@
 extern "C" {
 #endif
 
-#define LINKSHOAR_VERSION "4.0.0"
+#define LINKSHOAR_VERSION "4.1.0"
 
 /* The numbers given back. Where several apply the lowest is given; in a list the first bad field wins, then its lowest number. */
 enum {
@@ -36,7 +37,9 @@ enum {
     LINKSHOAR_RECTANGLE_OUTSIDE = 12,
     LINKSHOAR_FILL_PERSISTENT = 13,
     LINKSHOAR_RUN_OVER = 14,
-    LINKSHOAR_BUFFER_SHORT = 15
+    LINKSHOAR_BUFFER_SHORT = 15,
+    LINKSHOAR_SETTING_OTHER = 16,
+    LINKSHOAR_VIDEO_OFF_OR_OVERRIDE = 17
 };
 
 /* Sizes. */
@@ -45,7 +48,17 @@ enum {
     LINKSHOAR_ROWS = 512,           /* rows at most */
     LINKSHOAR_SERIAL_WORDS = 256,   /* the serial register */
     LINKSHOAR_TABLE_BYTES = 768,    /* the palette's table: red, green, blue of 256 entries */
-    LINKSHOAR_LIST_BYTES = 851974   /* the longest list that a fill writes */
+    LINKSHOAR_LIST_BYTES = 851974,  /* the longest list that a fill writes */
+    LINKSHOAR_ADDRESSES = 262144,   /* the Am8150's addresses: 18 bits */
+    LINKSHOAR_PAN_LEAST = -131072,  /* a pan in words, from here */
+    LINKSHOAR_PAN_MOST = 131071     /* to here */
+};
+
+/* The Am8150's update modes: when the graphics processor has the display memory. */
+enum {
+    LINKSHOAR_UPDATE_RETRACE = 0,    /* in the retrace only */
+    LINKSHOAR_UPDATE_OVERRIDE = 1,   /* always: no words are fetched */
+    LINKSHOAR_UPDATE_INTERLEAVED = 2 /* between two words; not together with page mode */
 };
 
 /* The video RAM's registers. waiting: 0 none, 1 tap; where nothing waits tap is 0. */
@@ -96,6 +109,26 @@ typedef struct {
     uint8_t byte;
 } linkshoar_byte;
 
+/* The Am8150's registers and counters. */
+typedef struct {
+    uint32_t top_of_frame, counter; /* 18 bits each; the counter is the address of the next word */
+    uint8_t offset, refresh;        /* refresh: the refresh counter */
+    uint8_t cycles;                 /* refresh cycles at each horizontal sync, 0 to 3 */
+    uint8_t update;                 /* one of LINKSHOAR_UPDATE_ */
+    uint8_t page, video, inhibited; /* 0 or 1; inhibited: horizontal syncs do not add the Offset */
+} linkshoar_controller;
+
+typedef struct {
+    linkshoar_controller state;
+    uint32_t number;
+} linkshoar_controlled;
+
+typedef struct {
+    linkshoar_controller state;
+    uint32_t number;
+    uint8_t bank, row, column; /* the address of the word fetched: bits 17 and 16, 15 to 8, 7 to 0 */
+} linkshoar_fetched;
+
 /* The states at power-on: zeros, and a pixel mask of 255. */
 linkshoar_vram linkshoar_vram_fresh(void);
 linkshoar_palette linkshoar_palette_fresh(void);
@@ -129,6 +162,37 @@ linkshoar_accessed linkshoar_palette_read(linkshoar_palette state, uint32_t sele
 uint32_t linkshoar_palette_write_lent(linkshoar_palette *state, uint8_t *table, size_t table_bytes, uint32_t select, uint8_t value);
 linkshoar_byte linkshoar_palette_read_lent(linkshoar_palette *state, uint32_t select);
 
+/* The Am8150's video address counter, for the older boards, from the controller's own archive, libcontroller_c.a. Each call is refused with 1
+ * for a state that the rules exclude: a Top of Frame or counter of 19 bits or more, cycles over 3, update over 2, page mode together with
+ * interleaved update, a yes-or-no byte over 1. A frame is a vertical sync, video on, and for each line its fetches, video off, a horizontal
+ * sync, video on: word k of line l has the address top_of_frame + l * (words to a line + offset) + k, modulo LINKSHOAR_ADDRESSES. */
+linkshoar_controller linkshoar_controller_fresh(void);
+
+/* The address of a frame's first word, below LINKSHOAR_ADDRESSES, from the next vertical sync on. Refused with 1, 16. */
+linkshoar_controlled linkshoar_controller_set_top_of_frame(linkshoar_controller state, uint32_t address);
+
+/* Moves Top of Frame by a number of words, LINKSHOAR_PAN_LEAST to LINKSHOAR_PAN_MOST, modulo LINKSHOAR_ADDRESSES. Refused with 1, 16. */
+linkshoar_controlled linkshoar_controller_pan(linkshoar_controller state, int32_t words);
+
+/* The words skipped from the end of a line to the next, 0 to 255. Resets the chip: counter, refresh counter and video go to 0 and nothing is
+ * inhibited, so it is set first. Refused with 1, 16. */
+linkshoar_controlled linkshoar_controller_set_offset(linkshoar_controller state, uint32_t offset);
+
+/* The Mode register whole: refresh cycles 0 to 3, page mode (0 no), update mode (one of LINKSHOAR_UPDATE_). Refused with 1, 16. */
+linkshoar_controlled linkshoar_controller_set_mode(linkshoar_controller state, uint32_t cycles, uint32_t page, uint32_t update);
+
+/* Video on, or off where on is 0. A change from off to on ends what a vertical sync has inhibited. Refused with 1. */
+linkshoar_controlled linkshoar_controller_video(linkshoar_controller state, uint32_t on);
+
+/* Adds the Offset to the counter, unless inhibited or in override, and makes the refresh cycles in any case. Refused with 1. */
+linkshoar_controlled linkshoar_controller_horizontal_sync(linkshoar_controller state);
+
+/* Loads the counter from Top of Frame, and inhibits the Offset's addition until video next goes from off to on. Refused with 1. */
+linkshoar_controlled linkshoar_controller_vertical_sync(linkshoar_controller state);
+
+/* A video word: answers the counter's address, then raises the counter by one. Refused with 1, 17. */
+linkshoar_fetched linkshoar_controller_fetch(linkshoar_controller state);
+
 /* What a number means, in a few words. */
 static inline const char *linkshoar_strerror(uint32_t number)
 {
@@ -149,6 +213,8 @@ static inline const char *linkshoar_strerror(uint32_t number)
     case LINKSHOAR_FILL_PERSISTENT: return "fill while the mask is persistent";
     case LINKSHOAR_RUN_OVER: return "run over 512 clocks";
     case LINKSHOAR_BUFFER_SHORT: return "answer buffer too short";
+    case LINKSHOAR_SETTING_OTHER: return "setting out of range, or page mode together with interleaved update";
+    case LINKSHOAR_VIDEO_OFF_OR_OVERRIDE: return "no word is fetched with video off or in override";
     default: return "unknown number";
     }
 }

@@ -1,25 +1,16 @@
 /* The palette's entries with the state lent, from the palette's own archive, against the second implementation.
  *   lent [calls] [seed] */
+#include "compare.h"
 #include "model.h"
 
 #include <stdio.h>
 #include <stdlib.h>
 #include <string.h>
 
-static uint64_t seed = 1;
-
-static uint32_t any(void)
-{
-    seed ^= seed << 13;
-    seed ^= seed >> 7;
-    seed ^= seed << 17;
-    return (uint32_t)(seed >> 24);
-}
-
 int main(int argc, char **argv)
 {
-    unsigned long most = argc > 1 ? strtoul(argv[1], NULL, 10) : 100000, seen[16] = {0};
-    seed = 0x9E3779B97F4A7C15u ^ (argc > 2 ? strtoull(argv[2], NULL, 10) : 1);
+    unsigned long most = argc > 1 ? strtoul(argv[1], NULL, 10) : 100000;
+    sow(argc > 2 ? strtoull(argv[2], NULL, 10) : 1);
     linkshoar_palette held = model_palette_fresh(), expected = held;
     uint8_t table[800], other[800];
     memset(table, 0, sizeof table);
@@ -38,14 +29,12 @@ int main(int argc, char **argv)
         linkshoar_accessed answered = model_palette_read(expected, select);
         expected = answered.state;
         if (number != wrote.number || read.number != answered.number || read.byte != answered.byte || memcmp(&held, &expected, sizeof held) ||
-            memcmp(table, other, sizeof table)) {
-            printf("DIFFERENCE after %lu calls\n", 2 * i);
-            return 1;
-        }
-        seen[number % 16]++;
+            memcmp(table, other, sizeof table))
+            differ("the entries with the state lent");
+        count(number);
         if (number == 1) /* back to a lawful state */
             held = expected = model_palette_fresh();
     }
-    printf("%lu calls with the state lent, no difference; 0: %lu 1: %lu 3: %lu 11: %lu\n", 2 * most, seen[0], seen[1], seen[3], seen[11]);
+    printf("%lu calls with the state lent, no difference; 0: %llu 1: %llu 3: %llu 11: %llu\n", 2 * most, seen[0], seen[1], seen[3], seen[11]);
     return !(seen[0] && seen[1] && seen[3] && seen[11]);
 }

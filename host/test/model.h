@@ -1,5 +1,6 @@
-/* A second implementation of document 01 in plain C, bit by bit, written from the rules and not from the proved code. The test program
- * compares the two. FAULT plants one of the errors that document 01 lists: each must be found. */
+/* A second implementation of document 01, and of the change requests that have landed, in plain C, bit by bit, written from the rules and not
+ * from the proved code. The test program compares the two. FAULT plants one error: 1 to 6 those that document 01 lists or that earlier
+ * versions had, 7 to 16 the Am8150's. Each must be found. */
 #ifndef MODEL_H
 #define MODEL_H
 
@@ -21,5 +22,16 @@ linkshoar_shown model_panel_run(linkshoar_vram state, const uint16_t *serial, si
                                 const uint8_t *table, size_t table_bytes, uint32_t clocks, uint32_t blank, uint8_t *out, size_t out_bytes);
 linkshoar_accessed model_palette_write(linkshoar_palette state, uint8_t *table, size_t table_bytes, uint32_t select, uint8_t value);
 linkshoar_accessed model_palette_read(linkshoar_palette state, uint32_t select);
+
+/* model_controller.c */
+linkshoar_controller model_controller_fresh(void);
+linkshoar_controlled model_controller_set_top_of_frame(linkshoar_controller state, uint32_t address);
+linkshoar_controlled model_controller_pan(linkshoar_controller state, int32_t words);
+linkshoar_controlled model_controller_set_offset(linkshoar_controller state, uint32_t offset);
+linkshoar_controlled model_controller_set_mode(linkshoar_controller state, uint32_t cycles, uint32_t page, uint32_t update);
+linkshoar_controlled model_controller_video(linkshoar_controller state, uint32_t on);
+linkshoar_controlled model_controller_horizontal_sync(linkshoar_controller state);
+linkshoar_controlled model_controller_vertical_sync(linkshoar_controller state);
+linkshoar_fetched model_controller_fetch(linkshoar_controller state);
 
 #endif

@@ -1,47 +1,14 @@
 /* Compares the archive with the second implementation on random calls, valid and damaged, every byte of what is answered and lent.
  *   test [calls] [seed] [seconds]      a difference is printed and ends the run with 1 */
+#include "compare.h"
 #include "model.h"
 
-#include <inttypes.h>
 #include <stdio.h>
 #include <stdlib.h>
 #include <string.h>
 #include <time.h>
 
 enum { MOST_WORDS = 262144, MOST_LIST = 4096, MOST_OUT = 1600 };
-
-static uint64_t seed = 1;
-static unsigned long long calls, seen[16];
-
-static uint32_t any(void)
-{
-    seed ^= seed << 13;
-    seed ^= seed >> 7;
-    seed ^= seed << 17;
-    return (uint32_t)(seed >> 24);
-}
-
-static uint32_t below(uint32_t n)
-{
-    return any() % n;
-}
-
-static int chance(uint32_t n)
-{
-    return below(n) == 0;
-}
-
-static void differ(const char *what)
-{
-    printf("DIFFERENCE after %llu calls in %s\n", calls, what);
-    exit(1);
-}
-
-static void same(const char *what, const void *a, const void *b, size_t bytes)
-{
-    if (memcmp(a, b, bytes))
-        differ(what);
-}
 
 static int vram_same(linkshoar_vram a, linkshoar_vram b)
 {
@@ -52,13 +19,6 @@ static int vram_same(linkshoar_vram a, linkshoar_vram b)
 static int palette_same(linkshoar_palette a, linkshoar_palette b)
 {
     return a.address == b.address && a.phase == b.phase && a.red == b.red && a.green == b.green && a.blue == b.blue && a.mask == b.mask;
-}
-
-static void count(uint32_t number)
-{
-    calls++;
-    if (number < 16)
-        seen[number]++;
 }
 
 /* ---- inputs */
@@ -100,18 +60,6 @@ static linkshoar_palette some_palette(void)
         default: p.blue = (uint8_t)any(); break;
         }
     return p;
-}
-
-/* A number that is mostly below n, and else at its edge or past a narrower width. */
-static uint32_t about(uint32_t n)
-{
-    switch (below(12)) {
-    case 0: return n;
-    case 1: return n - 1;
-    case 2: return chance(2) ? 65536 + below(n) : 256 + below(n);
-    case 3: return any();
-    default: return below(n);
-    }
 }
 
 static void some_words(uint16_t *a, uint16_t *b, size_t n)
@@ -287,6 +235,15 @@ static void try_palette(void)
         differ("linkshoar_palette_read");
 }
 
+/* Each number has a text of its own. */
+static void try_texts(void)
+{
+    for (uint32_t n = 0; n < NUMBERS; n++)
+        for (uint32_t m = n + 1; m <= NUMBERS; m++)
+            if (!strcmp(linkshoar_strerror(n), linkshoar_strerror(m)))
+                differ("linkshoar_strerror");
+}
+
 static void try_fresh(void)
 {
     if (!vram_same(linkshoar_vram_fresh(), model_vram_fresh()))
@@ -302,21 +259,24 @@ int main(int argc, char **argv)
 {
     unsigned long long most = argc > 1 ? strtoull(argv[1], NULL, 10) : 300000;
     double seconds = argc > 3 ? strtod(argv[3], NULL) : 0;
-    seed = 0x9E3779B97F4A7C15u ^ (argc > 2 ? strtoull(argv[2], NULL, 10) : 1);
+    sow(argc > 2 ? strtoull(argv[2], NULL, 10) : 1);
     time_t began = time(NULL);
+    try_texts();
     try_fresh();
     while (calls < most || (seconds > 0 && difftime(time(NULL), began) < seconds))
-        switch (below(10)) {
-        case 0: try_fill(); break;
-        case 1: try_read(); break;
-        case 2: try_clock(); break;
-        case 3: try_panel(); break;
-        case 4: case 5: try_palette(); break;
+        switch (below(40)) {
+        case 0: case 1: case 2: case 3: try_fill(); break;
+        case 4: case 5: case 6: case 7: try_read(); break;
+        case 8: case 9: case 10: case 11: try_clock(); break;
+        case 12: case 13: case 14: case 15: try_panel(); break;
+        case 16: case 17: case 18: case 19: case 20: case 21: case 22: case 23: try_palette(); break;
+        case 24: try_controller(); break; /* a session of some forty calls */
+        case 25: try_frame(); break;
         default: try_list(); break;
         }
     printf("%llu calls, no difference; by number:", calls);
     int all = 1;
-    for (int n = 0; n < 16; n++) {
+    for (int n = 0; n < NUMBERS; n++) {
         printf(" %d: %llu", n, seen[n]);
         all = all && seen[n];
     }

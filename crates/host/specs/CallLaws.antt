@@ -8,6 +8,7 @@ use lib.Dec.{eqb, leb}
 use borrow.Author.Tests.{eqb-true, eqb-false, leb-true}
 use Rattle.numbers.specs.Between.{both}
 use Rattle.words.specs.Bit.{digit}
+use Rattle.words.specs.BitLaws.{yes-or-no}
 use Rattle.vram.specs.declared.Vram.{Vram}
 use Rattle.vram.specs.declared.Waiting.the-variants.{None, Tap}
 use Rattle.vram.specs.Board.{board}
@@ -24,13 +25,6 @@ use Rattle.host.specs.State.{lawful, taken, handedBy, handed}
 use Rattle.host.specs.Calls.{listed, listAnswer, listCall, clockCall, shown, panelAnswer, panelCall}
 
 -- ---- there and back
-
-yes-or-no : (n : ℕ) → n ≤ 1 → digit (not (eqb n 0)) ≡ n
-yes-or-no n h = go (eqb n 0) refl
-  where
-    go : (t : Bool) → eqb n 0 ≡ t → digit (not t) ≡ n
-    go true e = sym (eqb-true n 0 e)
-    go false e = let k = eqb-false n 0 e in omega arith
 
 -- a state that a `Vram` can be comes back as it was given
 pub handed-taken : (s : Registers) → lawful s ≡ true → handed (taken s) ≡ s

@@ -35,6 +35,10 @@ pub const RUN_OVER: u32 = 14;
 
 pub const BUFFER_SHORT: u32 = 15;
 
+pub const SETTING_OTHER: u32 = 16;
+
+pub const VIDEO_OFF_OR_OVERRIDE: u32 = 17;
+
 // The number where the test fails; where it holds, what the later tests say.
 pub fn refuse(holds: bool, number: u32, later: u32) -> u32
     ensures { λ r. ⌜ r ≡ refuse holds number later ⌝ }

@@ -22,6 +22,18 @@ two P p q (suc (suc x)) h = absurd (omega arith)
 pub odd-digit : (x : ℕ) → digit (eqb (x % 2) 1) ≡ x % 2
 odd-digit x = two (λ (y : ℕ). digit (eqb y 1) ≡ y) refl refl (x % 2) (mod-lt x (omega arith))
 
+-- a yes or no as a number, there and back
+pub yes-or-no : (n : ℕ) → n ≤ 1 → digit (not (eqb n 0)) ≡ n
+yes-or-no n h = two (λ (y : ℕ). digit (not (eqb y 0)) ≡ y) refl refl n (omega arith)
+
+pub digit-yes : (p : Bool) → not (eqb (digit p) 0) ≡ p
+digit-yes true = refl
+digit-yes false = refl
+
+pub digit-small : (p : Bool) → leb (digit p) 1 ≡ true
+digit-small true = refl
+digit-small false = refl
+
 -- ---- an operation on digits
 
 module _ (op : ℕ → ℕ → ℕ) (f : Bool → Bool → Bool)

@@ -1,0 +1,30 @@
+-- `controller::Controller::video` meets its contract. Assumes nothing.
+use borrow.Author.Needs.{needs}
+use Rattle.controller.specs.Calls.{Video, allows, against, effect}
+use Rattle.controller.specs.CallLaws.{call-refused, call-done}
+use Rattle.controller.proofs.Controller.video.Statement.{statement}
+use Rattle.controller.proofs.Controller.video.Tie as tie
+
+refusal-requires : tie.Need-refusal-requires
+refusal-requires c κs = search needs
+
+returns : tie.Need-returns
+unfolding allows against
+returns c =
+    let d = c .before in
+    let a = d .before .args in
+    call-refused (Video (a .on)) (a .self) _ (d .refusal .ensures) (c .if1 .taken)
+
+video-set-requires : tie.Need-video-set-requires
+video-set-requires c κs = search needs
+
+returns-2 : tie.Need-returns-2
+unfolding allows against effect
+returns-2 c =
+    let i = c .before in
+    let d = i .before in
+    let a = d .before .args in
+    call-done (Video (a .on)) (a .self) (d .refusal .result) (d .refusal .ensures) (i .if1 .left) (c .video-set .ensures)
+
+pub video-spec : {M : Type 1} → statement M
+video-spec = tie.close (tie.spec refusal-requires returns video-set-requires returns-2)

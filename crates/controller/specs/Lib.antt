@@ -1,0 +1,19 @@
+-- The rules of change request M-100, the Am8150's counters, and the laws about them.
+pub mod State
+pub mod Address
+pub mod Effect
+pub mod Calls
+pub mod Session
+pub mod AddressLaws
+pub mod EffectLaws
+pub mod StateLaws
+pub mod CallLaws
+pub mod SessionLaws
+pub mod Inhibited
+pub mod Refresh
+pub mod Moves
+pub mod FrameLaws
+pub mod Frame
+pub mod Pans
+pub mod Example
+pub mod Once
