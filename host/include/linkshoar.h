@@ -49,9 +49,13 @@ enum {
     LINKSHOAR_SERIAL_WORDS = 256,   /* the serial register */
     LINKSHOAR_TABLE_BYTES = 768,    /* the palette's table: red, green, blue of 256 entries */
     LINKSHOAR_LIST_BYTES = 851974,  /* the longest list that a fill writes */
-    LINKSHOAR_ADDRESSES = 262144,   /* the Am8150's addresses: 18 bits */
-    LINKSHOAR_PAN_LEAST = -131072,  /* a pan in words, from here */
-    LINKSHOAR_PAN_MOST = 131071     /* to here */
+    LINKSHOAR_ADDRESSES = 262144    /* the Am8150's addresses: 18 bits */
+};
+
+/* How far a pan of the Am8150 reaches, in words. */
+enum {
+    LINKSHOAR_PAN_LEAST = -131072,
+    LINKSHOAR_PAN_MOST = 131071
 };
 
 /* The Am8150's update modes: when the graphics processor has the display memory. */
@@ -162,10 +166,16 @@ linkshoar_accessed linkshoar_palette_read(linkshoar_palette state, uint32_t sele
 uint32_t linkshoar_palette_write_lent(linkshoar_palette *state, uint8_t *table, size_t table_bytes, uint32_t select, uint8_t value);
 linkshoar_byte linkshoar_palette_read_lent(linkshoar_palette *state, uint32_t select);
 
-/* The Am8150's video address counter, for the older boards, from the controller's own archive, libcontroller_c.a. Each call is refused with 1
- * for a state that the rules exclude: a Top of Frame or counter of 19 bits or more, cycles over 3, update over 2, page mode together with
- * interleaved update, a yes-or-no byte over 1. A frame is a vertical sync, video on, and for each line its fetches, video off, a horizontal
- * sync, video on: word k of line l has the address top_of_frame + l * (words to a line + offset) + k, modulo LINKSHOAR_ADDRESSES. */
+/* The Am8150's counters, for the older boards, from the controller's own archive, libcontroller_c.a. Each call is refused with 1 for a state
+ * that the rules exclude: a Top of Frame or counter of 2^18 or more, cycles over 3, update over 2, page mode together with interleaved update,
+ * a yes-or-no byte over 1.
+ *
+ * A frame, not in override: a vertical sync; any horizontal syncs; then video goes from off to on; then for each line its fetches, video off,
+ * a horizontal sync, video on. Word k of line l has the address top_of_frame + l * (words to a line + offset) + k, modulo LINKSHOAR_ADDRESSES.
+ * Video is off before the next frame's video on, whether it is set off before or after the vertical sync: video set on where it is on
+ * changes nothing, and horizontal syncs would go on adding nothing. */
+
+/* The state at power-on: zeros, in the retrace only, nothing inhibited. */
 linkshoar_controller linkshoar_controller_fresh(void);
 
 /* The address of a frame's first word, below LINKSHOAR_ADDRESSES, from the next vertical sync on. Refused with 1, 16. */

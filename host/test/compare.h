@@ -19,8 +19,4 @@ void count(uint32_t number);
 void differ(const char *what); /* prints it and ends the program with 1 */
 void same(const char *what, const void *a, const void *b, size_t bytes);
 
-/* The Am8150's calls against the second implementation, and against the address of a word in closed form. */
-void try_controller(void);
-void try_frame(void);
-
 #endif

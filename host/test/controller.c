@@ -1,8 +1,10 @@
-/* The Am8150's calls: random sessions against the second implementation, and frames against the address of each word in closed form. */
+#include "controller.h"
+
 #include "compare.h"
 #include "model.h"
 
-#include <string.h>
+/* As `controller_c` has them: a member added in one place alone is found here. */
+_Static_assert(sizeof(linkshoar_controller) == 16 && sizeof(linkshoar_controlled) == 20 && sizeof(linkshoar_fetched) == 24, "structs");
 
 static int controller_same(linkshoar_controller a, linkshoar_controller b)
 {
@@ -31,7 +33,7 @@ static linkshoar_controller some_controller(void)
     s.page = (uint8_t)(s.update == 2 ? 0 : below(2));
     s.video = (uint8_t)below(2);
     s.inhibited = (uint8_t)below(2);
-    if (chance(8)) /* a state that no rule allows, or that no state can be */
+    if (chance(8)) /* a state that the rules exclude, or that no `Controller` can be */
         switch (below(8)) {
         case 0: s.top_of_frame = chance(2) ? 262144 : any(); break;
         case 1: s.counter = chance(2) ? 262144 : any(); break;
@@ -79,10 +81,10 @@ static linkshoar_controller some_call(linkshoar_controller s)
     case 1: words = some_pan(); return BOTH(pan, s, words);
     case 2: value = about(256); return chance(3) ? BOTH(set_offset, s, value) : s;
     case 3: {
-        uint32_t cycles = chance(4) ? about(4) : below(4), page = chance(2) ? 0 : chance(2) ? 256 : any(), update = chance(4) ? about(3) : below(3);
+        uint32_t cycles = chance(4) ? about(4) : below(4), page = chance(2) ? 0 : chance(2) ? 1 : chance(2) ? 256 : any(), update = chance(4) ? about(3) : below(3);
         return BOTH(set_mode, s, cycles, page, update);
     }
-    case 4: case 5: case 6: value = chance(2) ? 0 : chance(2) ? 1 : 256 * below(3); return BOTH(video, s, value);
+    case 4: case 5: case 6: value = chance(2) ? 0 : chance(2) ? 1 : chance(2) ? 65536 : any(); return BOTH(video, s, value);
     case 7: case 8: case 9: return BOTH(horizontal_sync, s);
     case 10: case 11: return BOTH(vertical_sync, s);
     default: return fetched(linkshoar_controller_fetch(s), model_controller_fetch(s));
@@ -98,23 +100,16 @@ void try_controller(void)
         s = some_call(s);
 }
 
-/* A frame from the archive alone: word k of line l has the address Top of Frame + l * (words to a line + Offset) + k, wrapped at 18 bits. */
-void try_frame(void)
+/* A frame from the archive alone: word k of line l has the address Top of Frame + l * (words to a line + Offset) + k, wrapped at 18 bits.
+ * Video is on at the end. */
+static linkshoar_controller frame(linkshoar_controller s, uint32_t top, uint32_t offset)
 {
-    uint32_t top = some_address(), offset = below(256), words = below(9), lines = below(4);
-    int32_t pan = (int32_t)below(262144) - 131072;
-    linkshoar_controller s = linkshoar_controller_set_offset(linkshoar_controller_fresh(), offset).state;
-    s = linkshoar_controller_set_mode(s, below(4), 0, chance(2) ? LINKSHOAR_UPDATE_RETRACE : LINKSHOAR_UPDATE_INTERLEAVED).state;
-    s = linkshoar_controller_set_top_of_frame(s, top).state;
-    s = linkshoar_controller_pan(s, pan).state;
-    s = linkshoar_controller_vertical_sync(s).state;
-    for (uint32_t n = below(4); n; n--)
-        s = linkshoar_controller_horizontal_sync(s).state;
+    uint32_t words = below(9), lines = below(4);
     s = linkshoar_controller_video(s, 1).state;
     for (uint32_t l = 0; l <= lines; l++) {
         for (uint32_t k = 0; k < words; k++) {
             linkshoar_fetched f = linkshoar_controller_fetch(s);
-            uint32_t address = (uint32_t)((int64_t)top + 262144 + pan + l * (words + offset) + k) % 262144;
+            uint32_t address = (top + l * (words + offset) + k) % 262144;
             count(f.number);
             if (f.number || f.bank != address / 65536 || f.row != address / 256 % 256 || f.column != address % 256)
                 differ("the address of a word of a frame");
@@ -123,5 +118,29 @@ void try_frame(void)
         s = linkshoar_controller_video(s, 0).state;
         s = linkshoar_controller_horizontal_sync(s).state;
         s = linkshoar_controller_video(s, 1).state;
+    }
+    return s;
+}
+
+/* Some frames, each panned from the one before, with the vertical sync before or after video is set off. */
+void try_frame(void)
+{
+    uint32_t top = some_address(), offset = below(256);
+    linkshoar_controller s = linkshoar_controller_set_offset(linkshoar_controller_fresh(), offset).state;
+    s = linkshoar_controller_set_mode(s, below(4), 0, chance(2) ? LINKSHOAR_UPDATE_RETRACE : LINKSHOAR_UPDATE_INTERLEAVED).state;
+    s = linkshoar_controller_set_top_of_frame(s, top).state;
+    for (int frames = 0; frames < 3; frames++) {
+        int32_t words = (int32_t)below(262144) - 131072;
+        int early = chance(2);
+        s = linkshoar_controller_pan(s, words).state;
+        top = (uint32_t)((int64_t)top + 262144 + words) % 262144;
+        if (early)
+            s = linkshoar_controller_video(s, 0).state;
+        s = linkshoar_controller_vertical_sync(s).state;
+        for (uint32_t n = below(4); n; n--)
+            s = linkshoar_controller_horizontal_sync(s).state;
+        if (!early)
+            s = linkshoar_controller_video(s, 0).state;
+        s = frame(s, top, offset);
     }
 }

@@ -32,9 +32,10 @@ int main(int argc, char **argv)
             memcmp(table, other, sizeof table))
             differ("the entries with the state lent");
         count(number);
+        count(read.number);
         if (number == 1) /* back to a lawful state */
             held = expected = model_palette_fresh();
     }
-    printf("%lu calls with the state lent, no difference; 0: %llu 1: %llu 3: %llu 11: %llu\n", 2 * most, seen[0], seen[1], seen[3], seen[11]);
+    printf("%llu calls with the state lent, no difference; 0: %llu 1: %llu 3: %llu 11: %llu\n", calls, seen[0], seen[1], seen[3], seen[11]);
     return !(seen[0] && seen[1] && seen[3] && seen[11]);
 }

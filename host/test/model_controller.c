@@ -30,9 +30,7 @@ static linkshoar_controlled judged(linkshoar_controller state, uint32_t number)
 
 static void raise(linkshoar_controller *s)
 {
-    s->counter++;
-    if (s->counter >= WRAP)
-        s->counter = 0;
+    s->counter = (s->counter + 1) % WRAP;
 }
 
 linkshoar_controller model_controller_fresh(void)
@@ -171,6 +169,10 @@ linkshoar_fetched model_controller_fetch(linkshoar_controller state)
         r.bank = (uint8_t)(state.counter >> 16 & 3);
         r.row = (uint8_t)(state.counter >> 8 & 255);
         r.column = (uint8_t)(state.counter & 255);
+#if FAULT == 17 /* bank and row exchanged */
+        r.bank = (uint8_t)(state.counter >> 8 & 255);
+        r.row = (uint8_t)(state.counter >> 16 & 3);
+#endif
     }
     return r;
 }

@@ -1,6 +1,7 @@
 /* Compares the archive with the second implementation on random calls, valid and damaged, every byte of what is answered and lent.
  *   test [calls] [seed] [seconds]      a difference is printed and ends the run with 1 */
 #include "compare.h"
+#include "controller.h"
 #include "model.h"
 
 #include <stdio.h>
@@ -255,25 +256,20 @@ static void try_fresh(void)
         differ("linkshoar_fill with an empty slice");
 }
 
+/* Ten, and one time in forty one of the last two, which are some forty calls each. */
+static void (*const tries[])(void) = {try_fill, try_read, try_clock, try_panel, try_palette, try_palette,
+                                      try_list, try_list, try_list, try_list, try_controller, try_frame};
+
 int main(int argc, char **argv)
 {
-    unsigned long long most = argc > 1 ? strtoull(argv[1], NULL, 10) : 300000;
+    unsigned long long most = argc > 1 ? strtoull(argv[1], NULL, 10) : 600000;
     double seconds = argc > 3 ? strtod(argv[3], NULL) : 0;
     sow(argc > 2 ? strtoull(argv[2], NULL, 10) : 1);
     time_t began = time(NULL);
     try_texts();
     try_fresh();
     while (calls < most || (seconds > 0 && difftime(time(NULL), began) < seconds))
-        switch (below(40)) {
-        case 0: case 1: case 2: case 3: try_fill(); break;
-        case 4: case 5: case 6: case 7: try_read(); break;
-        case 8: case 9: case 10: case 11: try_clock(); break;
-        case 12: case 13: case 14: case 15: try_panel(); break;
-        case 16: case 17: case 18: case 19: case 20: case 21: case 22: case 23: try_palette(); break;
-        case 24: try_controller(); break; /* a session of some forty calls */
-        case 25: try_frame(); break;
-        default: try_list(); break;
-        }
+        tries[chance(40) ? 10 + below(2) : below(10)]();
     printf("%llu calls, no difference; by number:", calls);
     int all = 1;
     for (int n = 0; n < NUMBERS; n++) {

@@ -85,7 +85,7 @@ reach-mag (negsuc n) e = leb-true n 131071 (both (leb n 131071) true e .0)
 
 -- ---- one turn more, by which the code keeps its sum from being negative
 
--- a number of at least one turn below 0
+-- no more than one turn below 0, and below two turns
 pub Near : ℤ → Type 0
 Near (pos n) = n < 524288
 Near (negsuc n) = n < 262144

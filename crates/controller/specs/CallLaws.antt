@@ -1,16 +1,26 @@
 -- The number that a call gives; it is refused and changes nothing, or is done. Assumes nothing.
 use mathlib.Core.Path.{_≡_, refl, sym, _∙_}
-use mathlib.Core.Bool.{true, false}
+use mathlib.Core.Bool.{true, false, not, _&&_, _||_}
 use mathlib.Core.Logic.{_≢_}
-use Prim.Native.Nat.{ℕ}
+use Prim.Native.Nat.{ℕ, _≤_}
+use lib.Dec.{eqb, leb}
+use borrow.Author.Tests.{leb-true}
+use Rattle.numbers.specs.Between.{both}
 use Rattle.numbers.specs.Refuse.{refuse}
 use Rattle.numbers.specs.RefuseLaws.{refuse-zero, leaves-made, leaves-before, refused-is, done-is}
 use Rattle.controller.specs.declared.Controller.{Controller}
 use Rattle.controller.specs.State.{ruled}
 use Rattle.controller.specs.StateLaws.{Ruled, ruled-parts, ruled-whole}
-use Rattle.controller.specs.Calls.{Call, SetTopOfFrame, Pan, SetOffset, SetMode, Video, HorizontalSync, VerticalSync, Fetch, allows, against, refusal, number, effect, after, controlled, does, fetched, fetchCall}
+use Rattle.controller.specs.Calls.{Call, SetTopOfFrame, Pan, SetOffset, SetMode, Video, HorizontalSync, VerticalSync, Fetch, modeAllowed, allows, against, refusal, number, effect, after, controlled, does, fetched, fetchCall}
 
 -- ---- what an accepted call was given
+
+pub mode-parts : (cycles page update : ℕ) → modeAllowed cycles page update ≡ true
+    → (cycles ≤ 3) × (update ≤ 2) × ((eqb page 0 || not (eqb update 2)) ≡ true)
+mode-parts cycles page update e =
+    let h = both (leb cycles 3 && leb update 2) (eqb page 0 || not (eqb update 2)) e in
+    let g = both (leb cycles 3) (leb update 2) (h .0) in
+    (leb-true cycles 3 (g .0), leb-true update 2 (g .1), h .1)
 
 pub record Accepted (c : Call) (s : Controller) : Type 0 where
   pub rule : Ruled s

@@ -24,12 +24,16 @@ pub data Call : Type 0 where
 
 -- ---- what refuses a call
 
+-- cycles 0 to 3, an update mode 0 to 2, and page mode not together with interleaved update
+abbrev pub modeAllowed : ℕ → ℕ → ℕ → Bool
+modeAllowed cycles page update = (leb cycles 3 && leb update 2) && (eqb page 0 || not (eqb update 2))
+
 -- the call's own test: settings in range, page not together with interleaved, a word only while video is on and not in override
 unfoldable pub allows : Call → Controller → Bool
 allows (SetTopOfFrame address) s = ltb address 262144
 allows (Pan words) s = reaches words
 allows (SetOffset offset) s = leb offset 255
-allows (SetMode cycles page update) s = (leb cycles 3 && leb update 2) && (eqb page 0 || not (eqb update 2))
+allows (SetMode cycles page update) s = modeAllowed cycles page update
 allows (Video on) s = true
 allows HorizontalSync s = true
 allows VerticalSync s = true

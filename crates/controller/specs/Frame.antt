@@ -1,33 +1,45 @@
--- The address of every word of a frame: word k of line l is Top of Frame + l · (w + Offset) + k, wrapped at 18 bits. Assumes nothing.
-use mathlib.Core.Path.{_≡_, refl}
-use mathlib.Core.Bool.{true, false}
-use mathlib.Core.List.{List, _∷_, _++_}
-use Prim.Native.Nat.{ℕ, _+_, _*_}
-use native.Mathlib.Omega.{arith}
-use Rattle.controller.specs.declared.Controller.{Controller}
-use Rattle.controller.specs.State.{overrides, ruled}
-use Rattle.controller.specs.StateLaws.{ruled-parts}
-use Rattle.controller.specs.Address.{wrap}
-use Rattle.controller.specs.Calls.{Call, Video, VerticalSync, Fetch, after, fetchCall}
-use Rattle.controller.specs.Session.{session, times, lines, frame, Answers, Blank}
-use Rattle.controller.specs.SessionLaws.{session-append, after-ruled, session-ruled}
-use Rattle.controller.specs.FrameLaws.{vertical-is, on-is, fetch-answers, fetches-are, lines-are, blank-is}
+-- A frame as a display makes it, and what a fetch answers. Assumes nothing.
+use Prim.Native.Nat.{ℕ, zero, suc}
+use mathlib.Core.Path.{_≡_}
+use mathlib.Core.Bool.{Bool, true, false}
+use mathlib.Core.List.{List, [], _∷_, _++_}
+use mathlib.Core.Logic.{_≢_}
+use lib.Dec.{eqb}
+use lib.IntN.{ℤ}
+use Rattle.controller.specs.declared.Fetched.{Fetched}
+use Rattle.controller.specs.Address.{bankOf, rowOf, columnOf}
+use Rattle.controller.specs.Calls.{Call, SetTopOfFrame, Pan, SetMode, Video, HorizontalSync, VerticalSync, Fetch, modeAllowed}
+use Rattle.controller.specs.Session.{times}
 
--- After a vertical sync, not in override, and a gap that is blank, once video goes on: word k of line l. Top of Frame is the one of the
--- vertical sync; what is set or panned in the gap is for the next frame.
-pub frame-address : (s : Controller) → ruled s ≡ true → overrides (s .update) ≡ false → {gap : List Call} → Blank (s .video) gap
-    → (w l k : ℕ) → Answers (fetchCall (session (frame gap w l k) s)) (wrap (s .top + l * (w + s .offset) + k))
-frame-address s e p {gap} b w l k =
-    let r = ruled-parts s e in
-    let t = after VerticalSync s in
-    let q = after-ruled VerticalSync s r in
-    let g = session gap t in
-    let y = session-ruled gap t q in
-    let h = blank-is b t q (vertical-is s r (record { counter = refl; offset = refl; plain = p; lit = refl; held = refl })) in
-    let u = after (Video 1) g in
-    let z = after-ruled (Video 1) g y in
-    let x = session (lines l w) u in
-    let f : wrap (wrap (s .top + l * (w + s .offset)) + k) ≡ wrap (s .top + l * (w + s .offset) + k) = omega arith in
-    rw (session-append gap (Video 1 ∷ (lines l w ++ times k Fetch)) t, session-append (lines l w) (times k Fetch) u)
-    (rw (← f) (fetch-answers (session (times k Fetch) x) (session-ruled (times k Fetch) x (session-ruled (lines l w) u z))
-    (fetches-are k x (session-ruled (lines l w) u z) (lines-are l w u z (on-is g y h)))))
+-- a line of w words: w fetches, video off, one horizontal sync, video on
+abbrev pub line : ℕ → List Call
+line w = times w Fetch ++ Video 0 ∷ HorizontalSync ∷ Video 1 ∷ []
+
+abbrev pub lines : ℕ → ℕ → List Call
+lines zero w = []
+lines (suc l) w = line w ++ lines l w
+
+-- a frame up to word k of line l: a vertical sync, a gap, video on, l lines of w words, k words
+abbrev pub frame : List Call → ℕ → ℕ → ℕ → List Call
+frame gap w l k = VerticalSync ∷ (gap ++ Video 1 ∷ (lines l w ++ times k Fetch))
+
+-- A gap, from a vertical sync up to video's next change from off to on: horizontal syncs, video off, video on where it is on, and every
+-- setting but the Offset's. `Gap video override cs video′ override′`: video on, and in override, before it and after it.
+pub data Gap : Bool → Bool → List Call → Bool → Bool → Type 0 where
+  end : {v o : Bool} → Gap v o [] v o
+  sync : {v o v′ o′ : Bool} {cs : List Call} → Gap v o cs v′ o′ → Gap v o (HorizontalSync ∷ cs) v′ o′
+  off : {v o v′ o′ : Bool} {cs : List Call} → Gap false o cs v′ o′ → Gap v o (Video 0 ∷ cs) v′ o′
+  again : {o v′ o′ : Bool} {cs : List Call} (value : ℕ) → value ≢ 0 → Gap true o cs v′ o′ → Gap true o (Video value ∷ cs) v′ o′
+  top : {v o v′ o′ : Bool} {cs : List Call} (address : ℕ) → Gap v o cs v′ o′ → Gap v o (SetTopOfFrame address ∷ cs) v′ o′
+  pan : {v o v′ o′ : Bool} {cs : List Call} (words : ℤ) → Gap v o cs v′ o′ → Gap v o (Pan words ∷ cs) v′ o′
+  mode : {v o v′ o′ : Bool} {cs : List Call} (cycles page update : ℕ) → modeAllowed cycles page update ≡ true
+      → Gap v (eqb update 1) cs v′ o′ → Gap v o (SetMode cycles page update ∷ cs) v′ o′
+  refused : {v o v′ o′ : Bool} {cs : List Call} (cycles page update : ℕ) → modeAllowed cycles page update ≡ false
+      → Gap v o cs v′ o′ → Gap v o (SetMode cycles page update ∷ cs) v′ o′
+
+-- a fetch is done, and answers this address as bank, row and column
+pub record Answers (f : Fetched) (address : ℕ) : Type 0 where
+  pub done : f .number ≡ 0
+  pub bank : f .bank ≡ bankOf address
+  pub row : f .row ≡ rowOf address
+  pub column : f .column ≡ columnOf address

@@ -55,7 +55,8 @@ module _ (s : Controller) where
   override-moves HorizontalSync o = inl (keeps HorizontalSync (λ a. rw (o, or-true (s .inhibited))))
   override-moves VerticalSync o = inr vertical
   override-moves Fetch o =
-      inl (keeps Fetch (λ a. let n = both (s .video) (not (overrides (s .update))) (a .allowed) .1 in absurd (true≢false (sym (rw o at n)))))
+      inl (keeps Fetch
+      (λ a. let n = both (s .video) (not (overrides (s .update))) (a .allowed) .1 in absurd (true≢false (sym (rw o at n)))))
 
   -- and no word is fetched: 17, as with video off
   pub override-fetch : ruled s ≡ true → overrides (s .update) ≡ true → number Fetch s ≡ 17

@@ -1,18 +1,29 @@
 -- The refresh counter counts the cycles of every horizontal sync, in every mode, inhibited or not, with video on or off. Assumes nothing.
 use mathlib.Core.Path.{_≡_, refl, ap, ap₂, _∙_}
-use mathlib.Core.Bool.{true, _||_}
-use mathlib.Core.List.{List}
+use mathlib.Core.Bool.{true}
+use mathlib.Core.List.{List, [], _∷_}
 use Prim.Native.Nat.{ℕ, zero, suc, _+_, _*_, _%_, _<_}
 use native.Mathlib.Omega.{arith}
 use native.Mathlib.Nat.{suc-mul}
+use lib.IntN.{ℤ}
 use Rattle.controller.specs.declared.Controller.{Controller}
-use Rattle.controller.specs.State.{overrides, ruled}
+use Rattle.controller.specs.State.{ruled}
 use Rattle.controller.specs.StateLaws.{Ruled, ruled-parts}
-use Rattle.controller.specs.Effect.{advanced}
+use Rattle.controller.specs.EffectLaws.{advanced-holds}
 use Rattle.controller.specs.Calls.{Call, SetTopOfFrame, Pan, Video, HorizontalSync, VerticalSync, Fetch, allows, effect, after}
 use Rattle.controller.specs.CallLaws.{after-done}
-use Rattle.controller.specs.Session.{session, times, Syncs, end, sync, vertical, word, video, top, pan}
-use Rattle.controller.specs.SessionLaws.{cond-holds, after-holds, after-ruled}
+use Rattle.controller.specs.Session.{session, times}
+use Rattle.controller.specs.SessionLaws.{after-holds, after-ruled}
+
+-- n horizontal syncs among calls that set neither Offset nor mode
+pub data Syncs : ℕ → List Call → Type 0 where
+  end : Syncs 0 []
+  sync : {n : ℕ} {cs : List Call} → Syncs n cs → Syncs (suc n) (HorizontalSync ∷ cs)
+  vertical : {n : ℕ} {cs : List Call} → Syncs n cs → Syncs n (VerticalSync ∷ cs)
+  word : {n : ℕ} {cs : List Call} → Syncs n cs → Syncs n (Fetch ∷ cs)
+  video : {n : ℕ} {cs : List Call} (value : ℕ) → Syncs n cs → Syncs n (Video value ∷ cs)
+  top : {n : ℕ} {cs : List Call} (address : ℕ) → Syncs n cs → Syncs n (SetTopOfFrame address ∷ cs)
+  pan : {n : ℕ} {cs : List Call} (words : ℤ) → Syncs n cs → Syncs n (Pan words ∷ cs)
 
 -- the refresh counter is r, and a horizontal sync makes c cycles
 record Counts (r c : ℕ) (s : Controller) : Type 0 where
@@ -24,9 +35,7 @@ module _ (s : Controller) (r c : ℕ) (l : Ruled s) (e : Counts r c s) where
   unfolding allows effect
   synced =
       let f = after-done HorizontalSync s (record { rule = l; allowed = refl }) in
-      let a : Counts r c (advanced s) =
-      cond-holds (Counts r c) (s .inhibited || overrides (s .update)) e (record { refresh = e .refresh; cycles = e .cycles })
-      in
+      let a = advanced-holds (Counts r c) s e (record { refresh = e .refresh; cycles = e .cycles }) in
       record {
         refresh = ap (λ (t : Controller). t .refresh) f ∙ ap₂ (λ (x y : ℕ). (x + y) % 256) (a .refresh) (a .cycles);
         cycles = ap (λ (t : Controller). t .cycles) f ∙ a .cycles;
@@ -45,9 +54,9 @@ counts (vertical w) s r c h l e =
 counts (word w) s r c h l e =
     counts w (after Fetch s) r c h (after-ruled Fetch s l)
     (after-holds (Counts r c) Fetch s e (λ a. record { refresh = e .refresh; cycles = e .cycles }))
-counts (video on w) s r c h l e =
-    counts w (after (Video on) s) r c h (after-ruled (Video on) s l)
-    (after-holds (Counts r c) (Video on) s e (λ a. record { refresh = e .refresh; cycles = e .cycles }))
+counts (video value w) s r c h l e =
+    counts w (after (Video value) s) r c h (after-ruled (Video value) s l)
+    (after-holds (Counts r c) (Video value) s e (λ a. record { refresh = e .refresh; cycles = e .cycles }))
 counts (top address w) s r c h l e =
     counts w (after (SetTopOfFrame address) s) r c h (after-ruled (SetTopOfFrame address) s l)
     (after-holds (Counts r c) (SetTopOfFrame address) s e (λ a. record { refresh = e .refresh; cycles = e .cycles }))

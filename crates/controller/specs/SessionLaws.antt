@@ -4,24 +4,19 @@ use mathlib.Core.Bool.{Bool, true, false, not, _&&_, _||_, cond}
 use mathlib.Core.List.{List, [], _∷_, _++_}
 use Prim.Native.Nat.{ℕ, _≤_}
 use native.Mathlib.Omega.{arith}
-use lib.Dec.{eqb, leb}
+use lib.Dec.{eqb}
 use lib.IntN.{pos, _+ℤ_}
-use borrow.Author.Tests.{eqb-true, eqb-false, ltb-true, leb-true, not-true}
-use Rattle.numbers.specs.Between.{both}
+use borrow.Author.Tests.{eqb-true, eqb-false, ltb-true, not-true}
 use Rattle.controller.specs.declared.Controller.{Controller}
 use Rattle.controller.specs.declared.Update.the-variants.{Retrace, Override, Interleaved}
-use Rattle.controller.specs.State.{overrides, interleaves, updateOf}
+use Rattle.controller.specs.State.{interleaves, updateOf}
 use Rattle.controller.specs.StateLaws.{Ruled}
 use Rattle.controller.specs.AddressLaws.{wrapped-small}
 use Rattle.controller.specs.Effect.{advanced}
+use Rattle.controller.specs.EffectLaws.{advanced-holds}
 use Rattle.controller.specs.Calls.{Call, SetTopOfFrame, Pan, SetOffset, SetMode, Video, HorizontalSync, VerticalSync, Fetch, allows, number, effect, after}
-use Rattle.controller.specs.CallLaws.{Accepted, number-zero}
+use Rattle.controller.specs.CallLaws.{Accepted, number-zero, mode-parts}
 use Rattle.controller.specs.Session.{session}
-
--- what holds of each of two holds of the one taken
-pub cond-holds : {A : Type 0} (P : A → Type 0) (b : Bool) {x y : A} → P x → P y → P (cond b x y)
-cond-holds P true x y = x
-cond-holds P false x y = y
 
 -- what holds of a state, and of what an accepted call makes of it, holds after the call
 pub after-holds : (P : Controller → Type 0) (c : Call) (s : Controller) → P s → (Accepted c s → P (effect c s)) → P (after c s)
@@ -60,21 +55,18 @@ effect-ruled (Pan words) s a =
 effect-ruled (SetOffset offset) s a =
     record { top = a .rule .top; counter = omega arith; cycles = a .rule .cycles; apart = a .rule .apart }
 effect-ruled (SetMode cycles page update) s a =
-    let h = both (leb cycles 3 && leb update 2) (eqb page 0 || not (eqb update 2)) (a .allowed) in
-    let g = both (leb cycles 3) (leb update 2) (h .0) in
+    let m = mode-parts cycles page update (a .allowed) in
     record {
       top = a .rule .top;
       counter = a .rule .counter;
-      cycles = leb-true cycles 3 (g .0);
-      apart = mode-apart (eqb page 0) update (h .1) (leb-true update 2 (g .1));
+      cycles = m .0;
+      apart = mode-apart (eqb page 0) update (m .2) (m .1);
     }
 effect-ruled (Video on) s a =
     record { top = a .rule .top; counter = a .rule .counter; cycles = a .rule .cycles; apart = a .rule .apart }
 effect-ruled HorizontalSync s a =
-    let f : Ruled (advanced s) =
-    cond-holds Ruled (s .inhibited || overrides (s .update)) (a .rule)
-    (record { top = a .rule .top; counter = omega arith; cycles = a .rule .cycles; apart = a .rule .apart })
-    in
+    let f : Ruled (advanced s) = advanced-holds Ruled s (a .rule)
+    (record { top = a .rule .top; counter = omega arith; cycles = a .rule .cycles; apart = a .rule .apart }) in
     record { top = f .top; counter = f .counter; cycles = f .cycles; apart = f .apart }
 effect-ruled VerticalSync s a =
     record { top = a .rule .top; counter = a .rule .top; cycles = a .rule .cycles; apart = a .rule .apart }

@@ -9,10 +9,9 @@ impl Controller {
     pub fn fetch(self) -> Fetched
         ensures { λ r. ⌜ r ≡ fetchCall self ⌝ }
     {
-        let n = self.refusal(
-            self.video & !self.overrides(),
-            numbers::VIDEO_OFF_OR_OVERRIDE,
-        );
+        let video = self.video;
+        let overrides = self.overrides();
+        let n = self.refusal(video & !overrides, numbers::VIDEO_OFF_OR_OVERRIDE);
         if n != numbers::DONE {
             return Fetched {
                 state: self,
@@ -25,12 +24,15 @@ impl Controller {
         let address = self.counter;
         let next = (address + 1) % 262144;
         let state = self.with_counter(next);
+        let bank = (address / 65536) as u8;
+        let row = (address / 256 % 256) as u8;
+        let column = (address % 256) as u8;
         Fetched {
             state,
             number: numbers::DONE,
-            bank: (address / 65536) as u8,
-            row: (address / 256 % 256) as u8,
-            column: (address % 256) as u8,
+            bank,
+            row,
+            column,
         }
     }
 }

@@ -15,7 +15,7 @@ mod settings;
 mod state;
 mod syncs;
 
-// Who has the display memory besides the video words: the graphics processor in the retrace alone, at any time, or between two words.
+// When the graphics processor has the display memory: in the retrace only, always, or between two words.
 pub enum Update {
     Retrace,
     Override,

@@ -32,16 +32,9 @@ impl Controller {
     {
         let n = self.refusal(address < 262144, numbers::SETTING_OTHER);
         if n != numbers::DONE {
-            return Controlled {
-                state: self,
-                number: n,
-            };
+            return self.controlled(n);
         }
-        let state = self.with_top(address);
-        Controlled {
-            state,
-            number: numbers::DONE,
-        }
+        self.with_top(address).controlled(numbers::DONE)
     }
 
     // Top of Frame moved by a signed number of words, wrapped at 18 bits.
@@ -50,16 +43,10 @@ impl Controller {
     {
         let n = self.refusal(reaches(words), numbers::SETTING_OTHER);
         if n != numbers::DONE {
-            return Controlled {
-                state: self,
-                number: n,
-            };
+            return self.controlled(n);
         }
-        let state = self.with_top(panned(self.top, words));
-        Controlled {
-            state,
-            number: numbers::DONE,
-        }
+        self.with_top(panned(self.top, words))
+            .controlled(numbers::DONE)
     }
 
     // The Offset takes a value; counter, refresh counter and video go to zero, and nothing is inhibited.
@@ -78,16 +65,9 @@ impl Controller {
     {
         let n = self.refusal(offset <= 255, numbers::SETTING_OTHER);
         if n != numbers::DONE {
-            return Controlled {
-                state: self,
-                number: n,
-            };
+            return self.controlled(n);
         }
-        let state = self.offset_set(offset as u8);
-        Controlled {
-            state,
-            number: numbers::DONE,
-        }
+        self.offset_set(offset as u8).controlled(numbers::DONE)
     }
 
     // The Mode register whole: refresh cycles at each horizontal sync, page mode (0 no), update mode (0 to 2).
@@ -100,15 +80,9 @@ impl Controller {
             numbers::SETTING_OTHER,
         );
         if n != numbers::DONE {
-            return Controlled {
-                state: self,
-                number: n,
-            };
+            return self.controlled(n);
         }
-        let state = self.with_mode(cycles as u8, page != 0, Update::of(update));
-        Controlled {
-            state,
-            number: numbers::DONE,
-        }
+        self.with_mode(cycles as u8, page != 0, Update::of(update))
+            .controlled(numbers::DONE)
     }
 }

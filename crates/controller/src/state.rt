@@ -1,7 +1,8 @@
 // A state with one thing changed; every call changes a state by these. The rule, and what refuses a call.
 ghost use mathlib.Core.Path.{_≡_};
 ghost use Rattle.controller.specs.State.{withTop, withCounter, withOffset, withRefresh, withMode, withVideo, overrides, interleaves, ruled};
-ghost use Rattle.controller.specs.Calls.{refusal};
+ghost use Rattle.controller.specs.Calls.{controlled, refusal};
+use crate::Controlled;
 use crate::Controller;
 use crate::Update;
 use numbers::refuse;
@@ -141,6 +142,16 @@ impl Controller {
             & (self.counter < 262144)
             & (self.cycles <= 3)
             & !(self.page & interleaves)
+    }
+
+    // The state and the number given back.
+    pub(crate) fn controlled(self, number: u32) -> Controlled
+        ensures { λ r. ⌜ r ≡ controlled number self ⌝ }
+    {
+        Controlled {
+            state: self,
+            number,
+        }
     }
 
     // What refuses a call: 1 for the state, then the number where the call's own test fails.

@@ -20,7 +20,9 @@ impl Controller {
         requires { ⌜ ruled self ≡ true ⌝ }
         ensures { λ r. ⌜ r ≡ advanced self ⌝ }
     {
-        if self.inhibited | self.overrides() {
+        let inhibited = self.inhibited;
+        let overrides = self.overrides();
+        if inhibited | overrides {
             return self;
         }
         self.with_counter((self.counter + self.offset as u32) % 262144)
@@ -39,16 +41,9 @@ impl Controller {
     {
         let n = self.refusal(true, numbers::DONE);
         if n != numbers::DONE {
-            return Controlled {
-                state: self,
-                number: n,
-            };
+            return self.controlled(n);
         }
-        let state = self.video_set(on != 0);
-        Controlled {
-            state,
-            number: numbers::DONE,
-        }
+        self.video_set(on != 0).controlled(numbers::DONE)
     }
 
     // A horizontal sync: the Offset is added, and the refresh cycles are made.
@@ -57,16 +52,9 @@ impl Controller {
     {
         let n = self.refusal(true, numbers::DONE);
         if n != numbers::DONE {
-            return Controlled {
-                state: self,
-                number: n,
-            };
+            return self.controlled(n);
         }
-        let state = self.advanced().refreshed();
-        Controlled {
-            state,
-            number: numbers::DONE,
-        }
+        self.advanced().refreshed().controlled(numbers::DONE)
     }
 
     // A vertical sync, in override too: the counter is loaded from Top of Frame, and additions are inhibited.
@@ -75,15 +63,10 @@ impl Controller {
     {
         let n = self.refusal(true, numbers::DONE);
         if n != numbers::DONE {
-            return Controlled {
-                state: self,
-                number: n,
-            };
+            return self.controlled(n);
         }
-        let state = self.with_counter(self.top).with_video(self.video, true);
-        Controlled {
-            state,
-            number: numbers::DONE,
-        }
+        self.with_counter(self.top)
+            .with_video(self.video, true)
+            .controlled(numbers::DONE)
     }
 }

@@ -65,6 +65,16 @@ pub held-fetch : (s : Controller) → heldFetch (handed s) ≡ answeredFetch (fe
 unfolding heldFetch
 held-fetch s = rw (handed-lawful s) (ap (λ (t : Controller). answeredFetch (fetchCall t)) (taken-handed s))
 
+-- a fetch leaves what a call of it leaves
+pub held-fetch-state : (h : Held) → heldFetch h .state ≡ heldCall Fetch h .state
+unfolding heldFetch heldCall
+held-fetch-state h = go (lawful h)
+  where
+    go : (b : Bool)
+        → cond b (answeredFetch (fetchCall (taken h))) (fetchExcluded h) .state ≡ cond b (answered (does Fetch (taken h))) (heldExcluded h) .state
+    go true = refl
+    go false = refl
+
 -- the state after some calls, each given what the one before left
 abbrev pub heldSession : List Call → Held → Held
 heldSession [] h = h
@@ -73,3 +83,7 @@ heldSession (c ∷ cs) h = heldSession cs (heldCall c h .state)
 pub held-session : (cs : List Call) (s : Controller) → heldSession cs (handed s) ≡ handed (session cs s)
 held-session [] s = refl
 held-session (c ∷ cs) s = ap (λ r. heldSession cs (r .state)) (held-call c s) ∙ held-session cs (after c s)
+
+-- so a word fetched after some calls has the same answer, `frame-address` among others
+pub held-word : (cs : List Call) (s : Controller) → heldFetch (heldSession cs (handed s)) ≡ answeredFetch (fetchCall (session cs s))
+held-word cs s = ap heldFetch (held-session cs s) ∙ held-fetch (session cs s)

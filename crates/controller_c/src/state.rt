@@ -12,20 +12,20 @@ pub(crate) fn lawful(state: Held) -> bool
     (state.update <= 2) & (state.page <= 1) & (state.video <= 1) & (state.inhibited <= 1)
 }
 
-pub(crate) fn take(state: Held) -> Controller
-    ensures { λ r. ⌜ r ≡ taken state ⌝ }
+pub(crate) fn take(held: Held) -> Controller
+    ensures { λ r. ⌜ r ≡ taken held ⌝ }
 {
-    let update = Update::of(state.update as u32);
+    let update = Update::of(held.update as u32);
     Controller {
-        top: state.top,
-        counter: state.counter,
-        offset: state.offset,
-        refresh: state.refresh,
-        cycles: state.cycles,
+        top: held.top,
+        counter: held.counter,
+        offset: held.offset,
+        refresh: held.refresh,
+        cycles: held.cycles,
         update,
-        page: state.page != 0,
-        video: state.video != 0,
-        inhibited: state.inhibited != 0,
+        page: held.page != 0,
+        video: held.video != 0,
+        inhibited: held.inhibited != 0,
     }
 }
 

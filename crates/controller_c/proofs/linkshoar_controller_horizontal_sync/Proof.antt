@@ -25,7 +25,8 @@ returns c =
     let l = t .before .before in
     let a = l .before .args in
     c .answer .ensures
-    ∙ call-done (a .state) (sym (l .lawful .ensures) ∙ t .before .if1 .taken) (t .take .ensures) HorizontalSync (r .horizontal-sync .ensures)
+    ∙ call-done (a .state) (sym (l .lawful .ensures) ∙ t .before .if1 .taken) (t .take .ensures)
+    HorizontalSync (r .horizontal-sync .ensures)
 
 excluded-requires : tie.Need-excluded-requires
 excluded-requires c κs = search needs

@@ -29,7 +29,8 @@ returns c =
     let a = l .before .args in
     let w = toZ-ofZ w32 (a .words) (l .before .fits .words) in
     c .answer .ensures
-    ∙ call-done (a .state) (sym (l .lawful .ensures) ∙ t .before .if1 .taken) (t .take .ensures) (Pan (a .words)) (r .pan .ensures ∙ ap (λ (z : ℤ). does (Pan z) (t .take .result)) w)
+    ∙ call-done (a .state) (sym (l .lawful .ensures) ∙ t .before .if1 .taken) (t .take .ensures)
+    (Pan (a .words)) (r .pan .ensures ∙ ap (λ (z : ℤ). does (Pan z) (t .take .result)) w)
 
 excluded-requires : tie.Need-excluded-requires
 excluded-requires c κs = search needs

@@ -16,41 +16,41 @@ returns : tie.Need-returns
 unfolding allows against
 returns c =
     let d = c .before in
-    let o = d .before .before in
+    let o = d .before in
     fetch-refused (o .before .args .self) _ (rw (o .overrides .ensures) at (d .refusal .ensures)) (c .if1 .taken)
 
 add-next : tie.Need-add-next
 unfolding allows against
 add-next c =
     let d = c .before in
-    let o = d .before .before in
+    let o = d .before in
     let g = call-given Fetch (o .before .args .self) (d .refusal .result) (rw (o .overrides .ensures) at (d .refusal .ensures)) (c .if1 .left) in
     omega (arith, g .rule .counter)
 
 with-counter-requires : tie.Need-with-counter-requires
 with-counter-requires c κs = search needs
 
-cast-t10 : tie.Need-cast-t10
+cast-bank : tie.Need-cast-bank
 unfolding allows against
-cast-t10 c =
+cast-bank c =
     let i = c .before in
     let d = i .before in
-    let o = d .before .before in
+    let o = d .before in
     let g = call-given Fetch (o .before .args .self) (d .refusal .result) (rw (o .overrides .ensures) at (d .refusal .ensures)) (i .if1 .left) in
     omega (arith, g .rule .counter)
 
-cast-t13 : tie.Need-cast-t13
-cast-t13 c = search needs
+cast-row : tie.Need-cast-row
+cast-row c = search needs
 
-cast-t15 : tie.Need-cast-t15
-cast-t15 c = search needs
+cast-column : tie.Need-cast-column
+cast-column c = search needs
 
 returns-2 : tie.Need-returns-2
 unfolding allows against effect
 returns-2 c =
     let i = c .before in
     let d = i .before in
-    let o = d .before .before in
+    let o = d .before in
     fetch-done (o .before .args .self) (d .refusal .result) (rw (o .overrides .ensures) at (d .refusal .ensures)) (i .if1 .left)
     (c .with-counter .ensures)
 
@@ -63,7 +63,7 @@ fetch-spec =
     returns
     add-next
     with-counter-requires
-    cast-t10
-    cast-t13
-    cast-t15
+    cast-bank
+    cast-row
+    cast-column
     returns-2)

@@ -16,13 +16,16 @@ reaches-requires c κs = search needs
 refusal-requires : tie.Need-refusal-requires
 refusal-requires c κs = search needs
 
+controlled-requires : tie.Need-controlled-requires
+controlled-requires c κs = search needs
+
 returns : tie.Need-returns
 unfolding allows against
 returns c =
-    let d = c .before in
+    let d = c .before .before in
     let s = d .before .before in
     let r = d .before .reaches .ensures ∙ ap reaches (toZ-ofZ w32 (s .args .words) (s .fits .words)) in
-    call-refused (Pan (s .args .words)) (s .args .self) _ (rw r at (d .refusal .ensures)) (c .if1 .taken)
+    c .controlled .ensures ∙ call-refused (Pan (s .args .words)) (s .args .self) _ (rw r at (d .refusal .ensures)) (c .before .if1 .taken)
 
 panned-requires : tie.Need-panned-requires
 unfolding allows against
@@ -37,18 +40,22 @@ panned-requires c κs =
 with-top-requires : tie.Need-with-top-requires
 with-top-requires c κs = search needs
 
+controlled-requires-2 : tie.Need-controlled-requires-2
+controlled-requires-2 c κs = search needs
+
 returns-2 : tie.Need-returns-2
 unfolding allows against effect
 returns-2 c =
-    let p = c .before in
+    let p = c .before .before in
     let i = p .before in
     let d = i .before in
     let s = d .before .before in
     let w = toZ-ofZ w32 (s .args .words) (s .fits .words) in
     let r = d .before .reaches .ensures ∙ ap reaches w in
     let t = p .panned .ensures ∙ ap (panned (s .args .self .top)) w in
-    call-done (Pan (s .args .words)) (s .args .self) (d .refusal .result) (rw r at (d .refusal .ensures)) (i .if1 .left)
-    (c .with-top .ensures ∙ ap (withTop (s .args .self)) t)
+    c .controlled2 .ensures
+    ∙ call-done (Pan (s .args .words)) (s .args .self) (d .refusal .result) (rw r at (d .refusal .ensures)) (i .if1 .left)
+    (c .before .with-top .ensures ∙ ap (withTop (s .args .self)) t)
 
 pub pan-spec : {M : Type 1} → statement M
 pan-spec =
@@ -56,7 +63,9 @@ pan-spec =
     (tie.spec
     reaches-requires
     refusal-requires
+    controlled-requires
     returns
     panned-requires
     with-top-requires
+    controlled-requires-2
     returns-2)

@@ -1,24 +1,25 @@
 -- `controller::Controller::set_mode` meets its contract. Assumes nothing.
 use borrow.Author.Needs.{needs}
-use mathlib.Core.Bool.{not, _&&_, _||_}
+use mathlib.Core.Path.{_∙_}
 use native.Mathlib.Omega.{arith}
-use lib.Dec.{eqb, leb}
-use borrow.Author.Tests.{leb-true}
-use Rattle.numbers.specs.Between.{both}
 use Rattle.controller.specs.Calls.{SetMode, allows, against, effect}
-use Rattle.controller.specs.CallLaws.{call-given, call-refused, call-done}
+use Rattle.controller.specs.CallLaws.{mode-parts, call-given, call-refused, call-done}
 use Rattle.controller.proofs.Controller.set_mode.Statement.{statement}
 use Rattle.controller.proofs.Controller.set_mode.Tie as tie
 
 refusal-requires : tie.Need-refusal-requires
 refusal-requires c κs = search needs
 
+controlled-requires : tie.Need-controlled-requires
+controlled-requires c κs = search needs
+
 returns : tie.Need-returns
 unfolding allows against
 returns c =
-    let d = c .before in
+    let d = c .before .before in
     let a = d .before .args in
-    call-refused (SetMode (a .cycles) (a .page) (a .update)) (a .self) _ (d .refusal .ensures) (c .if1 .taken)
+    c .controlled .ensures
+    ∙ call-refused (SetMode (a .cycles) (a .page) (a .update)) (a .self) _ (d .refusal .ensures) (c .before .if1 .taken)
 
 cast-with-mode : tie.Need-cast-with-mode
 unfolding allows against
@@ -26,8 +27,7 @@ cast-with-mode c =
     let d = c .before in
     let a = d .before .args in
     let g = call-given (SetMode (a .cycles) (a .page) (a .update)) (a .self) (d .refusal .result) (d .refusal .ensures) (c .if1 .left) in
-    let h = both (leb (a .cycles) 3 && leb (a .update) 2) (eqb (a .page) 0 || not (eqb (a .update) 2)) (g .allowed) in
-    omega (arith, leb-true (a .cycles) 3 (both (leb (a .cycles) 3) (leb (a .update) 2) (h .0) .0))
+    omega (arith, mode-parts (a .cycles) (a .page) (a .update) (g .allowed) .0)
 
 of-requires : tie.Need-of-requires
 of-requires c κs = search needs
@@ -35,22 +35,29 @@ of-requires c κs = search needs
 with-mode-requires : tie.Need-with-mode-requires
 with-mode-requires c κs = search needs
 
+controlled-requires-2 : tie.Need-controlled-requires-2
+controlled-requires-2 c κs = search needs
+
 returns-2 : tie.Need-returns-2
 unfolding allows against effect
 returns-2 c =
-    let i = c .before .before in
+    let m = c .before in
+    let i = m .before .before in
     let d = i .before in
     let a = d .before .args in
-    call-done (SetMode (a .cycles) (a .page) (a .update)) (a .self) (d .refusal .result) (d .refusal .ensures) (i .if1 .left)
-    (rw (c .before .of .ensures) at (c .with-mode .ensures))
+    c .controlled2 .ensures
+    ∙ call-done (SetMode (a .cycles) (a .page) (a .update)) (a .self) (d .refusal .result) (d .refusal .ensures) (i .if1 .left)
+    (rw (m .before .of .ensures) at (m .with-mode .ensures))
 
 pub set-mode-spec : {M : Type 1} → statement M
 set-mode-spec =
     tie.close
     (tie.spec
     refusal-requires
+    controlled-requires
     returns
     cast-with-mode
     of-requires
     with-mode-requires
+    controlled-requires-2
     returns-2)
