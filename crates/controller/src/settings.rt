@@ -4,7 +4,7 @@ ghost use Prim.Native.Nat.{_<_};
 ghost use mathlib.Core.Bool.{true};
 ghost use Rattle.controller.specs.Address.{panned, reaches};
 ghost use Rattle.controller.specs.Effect.{offsetSet};
-ghost use Rattle.controller.specs.Calls.{SetTopOfFrame, Pan, SetOffset, SetMode, does};
+ghost use Rattle.controller.specs.Calls.{SetTopOfFrame, Pan, SetOffset, SetMode, modeAllowed, does};
 use crate::Controlled;
 use crate::Controller;
 use crate::Update;
@@ -23,6 +23,13 @@ fn panned(top: u32, words: i32) -> u32
 {
     let sum = top as i32 + words + 262144;
     sum as u32 % 262144
+}
+
+// Whether the Mode register takes these: cycles 0 to 3, an update mode 0 to 2, page mode not together with interleaved update.
+fn mode_allowed(cycles: u32, page: u32, update: u32) -> bool
+    ensures { λ r. ⌜ r ≡ modeAllowed cycles page update ⌝ }
+{
+    (cycles <= 3) & (update <= 2) & ((page == 0) | (update != 2))
 }
 
 impl Controller {
@@ -74,11 +81,7 @@ impl Controller {
     pub fn set_mode(self, cycles: u32, page: u32, update: u32) -> Controlled
         ensures { λ r. ⌜ r ≡ does (SetMode cycles page update) self ⌝ }
     {
-        let apart = (page == 0) | (update != 2);
-        let n = self.refusal(
-            (cycles <= 3) & (update <= 2) & apart,
-            numbers::SETTING_OTHER,
-        );
+        let n = self.refusal(mode_allowed(cycles, page, update), numbers::SETTING_OTHER);
         if n != numbers::DONE {
             return self.controlled(n);
         }

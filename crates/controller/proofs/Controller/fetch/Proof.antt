@@ -1,5 +1,6 @@
 -- `controller::Controller::fetch` meets its contract. Assumes nothing.
 use borrow.Author.Needs.{needs}
+use mathlib.Core.Path.{_∙_}
 use native.Mathlib.Omega.{arith}
 use Rattle.controller.specs.Calls.{Fetch, allows, against, effect}
 use Rattle.controller.specs.CallLaws.{call-given, fetch-refused, fetch-done}
@@ -12,12 +13,16 @@ overrides-requires c κs = search needs
 refusal-requires : tie.Need-refusal-requires
 refusal-requires c κs = search needs
 
+fetched-requires : tie.Need-fetched-requires
+fetched-requires c κs = search needs
+
 returns : tie.Need-returns
 unfolding allows against
 returns c =
-    let d = c .before in
+    let d = c .before .before in
     let o = d .before in
-    fetch-refused (o .before .args .self) _ (rw (o .overrides .ensures) at (d .refusal .ensures)) (c .if1 .taken)
+    c .fetched .ensures
+    ∙ fetch-refused (o .before .args .self) _ (rw (o .overrides .ensures) at (d .refusal .ensures)) (c .before .if1 .taken)
 
 add-next : tie.Need-add-next
 unfolding allows against
@@ -30,29 +35,24 @@ add-next c =
 with-counter-requires : tie.Need-with-counter-requires
 with-counter-requires c κs = search needs
 
-cast-bank : tie.Need-cast-bank
+fetched-requires-2 : tie.Need-fetched-requires-2
 unfolding allows against
-cast-bank c =
+fetched-requires-2 c κs =
     let i = c .before in
     let d = i .before in
     let o = d .before in
     let g = call-given Fetch (o .before .args .self) (d .refusal .result) (rw (o .overrides .ensures) at (d .refusal .ensures)) (i .if1 .left) in
     omega (arith, g .rule .counter)
 
-cast-row : tie.Need-cast-row
-cast-row c = search needs
-
-cast-column : tie.Need-cast-column
-cast-column c = search needs
-
 returns-2 : tie.Need-returns-2
 unfolding allows against effect
 returns-2 c =
-    let i = c .before in
+    let i = c .before .before in
     let d = i .before in
     let o = d .before in
-    fetch-done (o .before .args .self) (d .refusal .result) (rw (o .overrides .ensures) at (d .refusal .ensures)) (i .if1 .left)
-    (c .with-counter .ensures)
+    c .fetched2 .ensures
+    ∙ fetch-done (o .before .args .self) (d .refusal .result) (rw (o .overrides .ensures) at (d .refusal .ensures)) (i .if1 .left)
+    (c .before .with-counter .ensures)
 
 pub fetch-spec : {M : Type 1} → statement M
 fetch-spec =
@@ -60,10 +60,9 @@ fetch-spec =
     (tie.spec
     overrides-requires
     refusal-requires
+    fetched-requires
     returns
     add-next
     with-counter-requires
-    cast-bank
-    cast-row
-    cast-column
+    fetched-requires-2
     returns-2)
