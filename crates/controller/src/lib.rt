@@ -6,7 +6,8 @@
 // change no address.
 // Where the sheet is unclear: our copies have lost the figures of the registers, so each is set by its meaning and not by pin code; the
 // two mode bits 5 and 4 are read as 0 to 3 refresh cycles; the Offset is 0 to 255 as in the request, where the sheet says even and at most
-// 126; what is inhibited from vertical sync on is the Offset's addition, and only a change of video from off to on ends that.
+// 126; what is inhibited from vertical sync on is the Offset's addition, and only a change of video from off to on, or a reset by setting
+// the Offset, ends that.
 ghost use mathlib.Core.Path.{_≡_};
 ghost use Rattle.controller.specs.State.{fresh, updateOf};
 
@@ -22,7 +23,8 @@ pub enum Update {
     Interleaved,
 }
 
-// The registers and counters, by value. Every field is public: a state that the rules exclude can be built, and is refused.
+// The registers and counters, by value: `top` is Top of Frame, `refresh` the refresh counter, `cycles` the refresh cycles at each horizontal
+// sync. Every field is public: a state that the rules exclude can be built, and is refused.
 pub struct Controller {
     pub top: u32,
     pub counter: u32,
