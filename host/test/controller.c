@@ -81,7 +81,8 @@ static linkshoar_controller some_call(linkshoar_controller s)
     case 1: words = some_pan(); return BOTH(pan, s, words);
     case 2: value = about(256); return chance(3) ? BOTH(set_offset, s, value) : s;
     case 3: {
-        uint32_t cycles = chance(4) ? about(4) : below(4), page = chance(2) ? 0 : chance(2) ? 1 : chance(2) ? 256 : any(), update = chance(4) ? about(3) : below(3);
+        uint32_t cycles = chance(4) ? about(4) : below(4), update = chance(4) ? about(3) : below(3);
+        uint32_t page = chance(2) ? 0 : chance(2) ? 1 : chance(2) ? 256 : any();
         return BOTH(set_mode, s, cycles, page, update);
     }
     case 4: case 5: case 6: value = chance(2) ? 0 : chance(2) ? 1 : chance(2) ? 65536 : any(); return BOTH(video, s, value);

@@ -13,11 +13,11 @@ use Rattle.controller.specs.Address.{reaches, panned, bankOf, rowOf, col
 use Rattle.controller.specs.Effect.{offsetSet, videoSet, advanced, refreshed, framed, stepped}
 
 pub data Call : Type 0 where
-  SetTopOfFrame : ℕ → Call
-  Pan : ℤ → Call
-  SetOffset : ℕ → Call
-  SetMode : ℕ → ℕ → ℕ → Call
-  Video : ℕ → Call
+  SetTopOfFrame : (address : ℕ) → Call
+  Pan : (words : ℤ) → Call
+  SetOffset : (offset : ℕ) → Call
+  SetMode : (cycles page update : ℕ) → Call
+  Video : (on : ℕ) → Call
   HorizontalSync : Call
   VerticalSync : Call
   Fetch : Call

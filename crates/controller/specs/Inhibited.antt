@@ -1,14 +1,14 @@
 -- From a vertical sync until video next goes from off to on the counter stays at Top of Frame, however many horizontal syncs come.
 -- Assumes nothing.
 use mathlib.Core.Path.{_≡_, refl}
-use mathlib.Core.Bool.{Bool, true, false, _&&_, or-true}
+use mathlib.Core.Bool.{Bool, true, false, and-true, or-true}
 use mathlib.Core.List.{List, _∷_}
 use mathlib.Core.Logic.{_≢_, _⊎_, inl, inr}
 use Prim.Native.Nat.{ℕ, zero, suc}
 use lib.Dec.{eqb}
 use borrow.Author.Tests.{eqb-false, ne-eqb}
 use Rattle.controller.specs.declared.Controller.{Controller}
-use Rattle.controller.specs.State.{withVideo, overrides, ruled}
+use Rattle.controller.specs.State.{overrides, ruled}
 use Rattle.controller.specs.StateLaws.{ruled-parts}
 use Rattle.controller.specs.EffectLaws.{advanced-holds}
 use Rattle.controller.specs.Calls.{Call, SetTopOfFrame, Pan, SetOffset, SetMode, Video, HorizontalSync, VerticalSync, Fetch, allows, against, effect, after}
@@ -47,11 +47,7 @@ module _ (s : Controller) where
   pub video-on-again : (value : ℕ) → s .video ≡ true → value ≢ 0 → after (Video value) s ≡ s
   unfolding effect
   video-on-again value v h =
-      after-holds (λ (t : Controller). t ≡ s) (Video value) s refl (λ a. rw (ne-eqb value 0 h, v) (again (s .inhibited)))
-    where
-      again : (i : Bool) → withVideo s true (i && true) ≡ withVideo s true i
-      again true = refl
-      again false = refl
+      after-holds (λ (t : Controller). t ≡ s) (Video value) s refl (λ a. rw (ne-eqb value 0 h, v, and-true (s .inhibited)))
 
   -- any number but 0 sets video on, as 1 does
   pub video-any : (value : ℕ) → value ≢ 0 → after (Video value) s ≡ after (Video 1) s
