@@ -1,4 +1,4 @@
--- The ways out of a serial clock. Assumes nothing.
+-- The ways out of a serial clock and of a run of clocks. Assumes nothing.
 use mathlib.Core.Path.{_≡_}
 use mathlib.Core.List.{List}
 use mathlib.Core.Logic.{_≢_}
@@ -11,9 +11,9 @@ use Rattle.vram.specs.declared.Vram.{Vram}
 use Rattle.vram.specs.declared.Clocked.{Clocked}
 use Rattle.vram.specs.declared.Word.{Word}
 use Rattle.vram.specs.State.{ruled}
-use Rattle.vram.specs.Serial.{clock, clocks}
+use Rattle.vram.specs.Serial.{through, clock, clocks}
 use Rattle.vram.specs.SerialLaws.{clock-is}
-use Rattle.vram.specs.Calls.{clockRefusal, clockCall}
+use Rattle.vram.specs.Calls.{clockRefusal, clockCall, moved, clocksRefusal, clocksCall}
 
 abbrev pub worded : ℕ → ℕ → Word
 worded n w = record { number = n; word = w }
@@ -33,4 +33,13 @@ module _ (s : Vram) (r : List ℕ) (n : ℕ) (e : n ≡ clockRefusal s (length r
 
   pub clock-done : {s′ : Vram} → n ≡ 0 → s′ ≡ clocks 1 s → clocked s′ (getD r (s .pointer) 0) 0 ≡ clockCall s r
   unfolding clockCall
-  clock-done z f = rw (← e, z, f, ← clock-is)
+  clock-done z f = rw (← e, z, f, clock-is s)
+
+module _ (s : Vram) (k n : ℕ) (e : n ≡ clocksRefusal s k) where
+  pub clocks-refused : n ≢ 0 → moved n s 0 ≡ clocksCall s k
+  unfolding clocksCall
+  clocks-refused h = rw (← e, leaves-before n s (clocks k s) h, leaves-before n 0 (through (clocks k s)) h)
+
+  pub clocks-done : {s′ : Vram} {t : ℕ} → n ≡ 0 → s′ ≡ clocks k s → t ≡ through s′ → moved 0 s′ t ≡ clocksCall s k
+  unfolding clocksCall
+  clocks-done z f g = rw (← e, z, g, f)

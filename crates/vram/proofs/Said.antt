@@ -11,16 +11,14 @@ use contract.Monad.{Fun, fact}
 use contract.Lifetimes.{Lfts}
 use denote.Triple.Entry.{Args, Res}
 use denote.Triple.Clauses.{AtExit}
-use Rattle.vram.specs.Once.{Fresh, Allows, PerformsCycle, ReadsWord, ClocksOnce, ClocksOften, LeadsThrough, RefusesGiven, RefusesCycle}
+use Rattle.vram.specs.Once.{Fresh, Allows, PerformsCycle, ReadsWord, ClocksOnce, ClocksOften, RefusesGiven}
 use Rattle.vram.proofs.Vram.fresh as fresh
 use Rattle.vram.proofs.Vram.ruled as ruled
 use Rattle.vram.proofs.Vram.cycle as cycle
 use Rattle.vram.proofs.read as read
 use Rattle.vram.proofs.Vram.clock as clock
 use Rattle.vram.proofs.Vram.clocks as clocks
-use Rattle.vram.proofs.Vram.through as through
 use Rattle.vram.proofs.Vram.given as given
-use Rattle.vram.proofs.Cycle.refusal as refusal
 
 module _ {M : Type 1} (𝓤 : URA M) (H : Heap 𝓤) (A : Atoms 𝓤) (mem : Memory → SProp 𝓤) (run : Routine → Fun 𝓤) where
   module _ (κs : Lfts 0) (a : Args fresh.signature κs) where
@@ -70,14 +68,6 @@ module _ {M : Type 1} (𝓤 : URA M) (H : Heap 𝓤) (A : Atoms 𝓤) (mem : Mem
         → clocks.clauses 𝓤 H A mem run κs a .ensures tt r e ≡ fact 𝓤 (ClocksOften (a .0, a .1 .0) r)
     clocks-says r e = refl
 
-  module _ (κs : Lfts 0) (a : Args through.signature κs) where
-    through-asks : through.clauses 𝓤 H A mem run κs a .requires tt ≡ emp 𝓤
-    through-asks = refl
-
-    through-says : (r : Res through.signature κs) (e : AtExit through.ended κs)
-        → through.clauses 𝓤 H A mem run κs a .ensures tt r e ≡ fact 𝓤 (LeadsThrough (a .0) r)
-    through-says r e = refl
-
   module _ (κs : Lfts 0) (a : Args given.signature κs) where
     given-asks : given.clauses 𝓤 H A mem run κs a .requires tt ≡ emp 𝓤
     given-asks = refl
@@ -85,11 +75,3 @@ module _ {M : Type 1} (𝓤 : URA M) (H : Heap 𝓤) (A : Atoms 𝓤) (mem : Mem
     given-says : (r : Res given.signature κs) (e : AtExit given.ended κs)
         → given.clauses 𝓤 H A mem run κs a .ensures tt r e ≡ fact 𝓤 (RefusesGiven (a .0, a .1 .0, a .1 .1 .0) r)
     given-says r e = refl
-
-  module _ (κs : Lfts 0) (a : Args refusal.signature κs) where
-    refusal-asks : refusal.clauses 𝓤 H A mem run κs a .requires tt ≡ emp 𝓤
-    refusal-asks = refl
-
-    refusal-says : (r : Res refusal.signature κs) (e : AtExit refusal.ended κs)
-        → refusal.clauses 𝓤 H A mem run κs a .ensures tt r e ≡ fact 𝓤 (RefusesCycle (a .0, a .1 .0, a .1 .1 .0) r)
-    refusal-says r e = refl

@@ -1,5 +1,5 @@
 -- Laws of the calls by which a run moves. Assumes nothing.
-use mathlib.Core.Path.{_≡_, refl}
+use mathlib.Core.Path.{_≡_, refl, ap}
 use mathlib.Core.Bool.{Bool, true, false, _||_}
 use Prim.Native.Nat.{ℕ, _+_, _≤_}
 use native.Mathlib.Omega.{arith}
@@ -8,9 +8,9 @@ use borrow.Author.Tests.{leb-true, le-leb, eq-eqb, eqb-true}
 use Rattle.numbers.specs.RefuseLaws.{refuse-zero, leaves-made}
 use Rattle.vram.specs.declared.Vram.{Vram}
 use Rattle.vram.specs.State.{ruled}
-use Rattle.vram.specs.Serial.{half, clocks}
-use Rattle.vram.specs.SerialLaws.{half-partition}
-use Rattle.vram.specs.RuleLaws.{Places, clocks-loaded, clocks-ruled}
+use Rattle.vram.specs.Serial.{through, clocks}
+use Rattle.vram.specs.SerialLaws.{clocks-keep}
+use Rattle.vram.specs.RuleLaws.{Places, clocks-ruled}
 use Rattle.vram.specs.Calls.{clocksRefusal, clocksCall}
 
 -- the number that `clocks` gives back
@@ -22,6 +22,11 @@ clocks-number s k = refl
 pub clocks-moves : (s : Vram) (k : ℕ) → clocksRefusal s k ≡ 0 → clocksCall s k .state ≡ clocks k s
 unfolding clocksCall
 clocks-moves s k z = leaves-made (clocksRefusal s k) s (clocks k s) z
+
+-- and so many clocks more lead through the end of its partition
+pub clocks-leads : (s : Vram) (k : ℕ) → clocksRefusal s k ≡ 0 → clocksCall s k .through ≡ through (clocks k s)
+unfolding clocksCall
+clocks-leads s k z = leaves-made (clocksRefusal s k) 0 (through (clocks k s)) z
 
 -- what a run that is not refused has
 record Accepted (s : Vram) (k : ℕ) : Type 0 where
@@ -61,4 +66,4 @@ pub clocks-rest : (s : Vram) (j k : ℕ) → Places s → clocksRefusal s (j + k
 unfolding clocksRefusal
 clocks-rest s j k p z =
     let a = clocks-zero s (j + k) z in
-    rw (clocks-ruled half half-partition j s p (a .rule), clocks-loaded half j s, exempt (s .loaded) k (j + k) (λ z. omega arith) (a .made), le-leb k 512 (omega (arith, a .most)))
+    rw (clocks-ruled j s p (a .rule), ap (λ (x : Vram). x .loaded) (clocks-keep j s), exempt (s .loaded) k (j + k) (λ z. omega arith) (a .made), le-leb k 512 (omega (arith, a .most)))

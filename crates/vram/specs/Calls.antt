@@ -11,12 +11,13 @@ use Rattle.vram.specs.declared.Vram.{Vram}
 use Rattle.vram.specs.declared.Cycle.{Cycle}
 use Rattle.vram.specs.declared.Answered.{Answered}
 use Rattle.vram.specs.declared.Clocked.{Clocked}
+use Rattle.vram.specs.declared.Moved.{Moved}
 use Rattle.vram.specs.declared.Word.{Word}
 use Rattle.vram.specs.State.{ruled}
 use Rattle.vram.specs.Board.{Board, board}
 use Rattle.vram.specs.Refusal.{readRefusal}
 use Rattle.vram.specs.Step.{number, step}
-use Rattle.vram.specs.Serial.{clock, clocks}
+use Rattle.vram.specs.Serial.{through, clock, clocks}
 
 abbrev pub answered : ℕ → Vram → Answered
 answered n s = record { state = s; number = n }
@@ -56,10 +57,13 @@ clockCall s r =
     let n = clockRefusal s (length r) in
     record { state = leaves n s (clock s); word = leaves n 0 (getD r (s .pointer) 0); number = n }
 
--- ---- the state after k clocks; none of them asks for a full transfer where there are none
+-- ---- the state after k clocks, and how many more lead through the end of its partition; none asks for a full transfer
 
 unfoldable pub clocksRefusal : Vram → ℕ → ℕ
 clocksRefusal s k = refuse (ruled s) 1 (refuse (eqb k 0 || s .loaded) 10 (refuse (leb k 512) 14 0))
 
-unfoldable pub clocksCall : Vram → ℕ → Answered
-clocksCall s k = answered (clocksRefusal s k) (leaves (clocksRefusal s k) s (clocks k s))
+abbrev pub moved : ℕ → Vram → ℕ → Moved
+moved n s through = record { state = s; through = through; number = n }
+
+unfoldable pub clocksCall : Vram → ℕ → Moved
+clocksCall s k = let n = clocksRefusal s k in moved n (leaves n s (clocks k s)) (leaves n 0 (through (clocks k s)))

@@ -144,20 +144,6 @@ tag-split row half tap = refl
 
 -- only a full transfer (6) counts as one made
 
-either : (p : Bool) → p ≡ (p || false)
-either true = refl
-either false = refl
-
-always : (p : Bool) → true ≡ (p || true)
-always true = refl
-always false = refl
-
 pub loads-tag : (c : Cycle) (made : Bool) → loads c made ≡ (made || eqb (tagOf c) 6)
-unfolding loads tagOf
-loads-tag (WordWrite row column word masking mask strobes) made = either made
-loads-tag (BlockWrite row column columns masking mask strobes) made = either made
-loads-tag (LoadColour word strobes) made = either made
-loads-tag (LoadMask word strobes) made = either made
-loads-tag ResetRefresh made = either made
-loads-tag (FullTransfer row half tap) made = always made
-loads-tag (SplitTransfer row half tap) made = either made
+unfolding loads
+loads-tag c made = refl

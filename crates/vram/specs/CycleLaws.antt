@@ -22,7 +22,8 @@ use Rattle.refusals.specs.RefusalLaws.{Placed, write-zero, word-within, block-w
 use Rattle.vram.specs.MemoryLaws.{among, among-one}
 use Rattle.vram.specs.Step.{rowsOf, number, step}
 use Rattle.vram.specs.StepLaws.{number-zero, step-acts}
-use Rattle.vram.specs.Writes.{writes, written, effect-writes, written-at}
+use Rattle.vram.specs.Writes.{writes, written, written-at}
+use Rattle.vram.specs.Sets.{effect-writes}
 
 -- ---- the memory: a cycle that is not refused leaves what `writes` says
 

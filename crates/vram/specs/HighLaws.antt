@@ -9,11 +9,12 @@ use Rattle.words.specs.Word.{merged, high}
 use Rattle.words.specs.WordLaws.{merged-high}
 use Rattle.vram.specs.declared.Vram.{Vram}
 use Rattle.vram.specs.declared.Cycle.{Cycle}
-use Rattle.vram.specs.declared.Cycle.the-variants.{WordWrite, BlockWrite, LoadColour, LoadMask, ResetRefresh, FullTransfer, SplitTransfer}
 use Rattle.vram.specs.ListLaws.{map-set, map-length, map-at}
 use Rattle.vram.specs.Memory.{put, puts, copied}
 use Rattle.vram.specs.MemoryLaws.{copied-map}
-use Rattle.vram.specs.Board.{Board, board, effect}
+use Rattle.vram.specs.Board.{Board, effect}
+use Rattle.vram.specs.Writes.{base, writes}
+use Rattle.vram.specs.Sets.{sets, effect-is}
 use Rattle.vram.specs.Step.{number, stepBy, runBy, step, run}
 
 -- ---- words that agree in every high byte: equal lengths, and equal high bytes at each place (`map-length`, `map-at`)
@@ -53,20 +54,13 @@ pub record Same (a b : Board) : Type 0 where
   pub memory : Agree (a .memory) (b .memory)
   pub serial : Agree (a .serial) (b .serial)
 
-module _ (s : Vram) {l m r q : List ℕ} (e : Agree l m) (h : Agree r q) where
-  effect-on : (c : Cycle) → Same (effect c (board s l r)) (effect c (board s m q))
-  unfolding effect
-  effect-on (WordWrite row column word masking mask strobes) = record { state = refl; memory = put-agree _ _ _ e; serial = h }
-  effect-on (BlockWrite row column columns masking mask strobes) = record { state = refl; memory = puts-agree _ _ _ 4 e; serial = h }
-  effect-on (LoadColour word strobes) = record { state = refl; memory = e; serial = h }
-  effect-on (LoadMask word strobes) = record { state = refl; memory = e; serial = h }
-  effect-on ResetRefresh = record { state = refl; memory = e; serial = h }
-  effect-on (FullTransfer row half tap) = record { state = refl; memory = e; serial = copied-agree _ _ _ e h }
-  effect-on (SplitTransfer row half tap) = record { state = refl; memory = e; serial = copied-agree _ _ _ e h }
-
 pub effect-same : (c : Cycle) {a b : Board} → Same a b → Same (effect c a) (effect c b)
-effect-same c {a} {b} k =
-    subst (λ (s : Vram). Same (effect c a) (effect c (board s (b .memory) (b .serial)))) (k .state) (effect-on (a .state) (k .memory) (k .serial) c)
+effect-same c {a} {b} k = rw (effect-is c a, effect-is c b, k .state)
+    (record {
+      state = refl;
+      memory = puts-agree (base (writes c (b .state))) (writes c (b .state) .pen) (writes c (b .state) .through) (writes c (b .state) .count) (k .memory);
+      serial = copied-agree (sets c (b .state) .from) (sets c (b .state) .to) (sets c (b .state) .count) (k .memory) (k .serial);
+    })
 
 -- the numbers given back are equal
 pub number-same : (c : Cycle) {a b : Board} → Same a b → number c a ≡ number c b

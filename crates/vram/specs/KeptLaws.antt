@@ -1,91 +1,192 @@
--- What a cycle leaves, by its tag, and what it makes of `loaded`. Assumes nothing.
-use mathlib.Core.Path.{_≡_, refl, ap, _∙_}
+-- What a cycle leaves, by its tag: one law by cases, in which another cycle adds one clause, and what follows from it. Assumes nothing.
+use mathlib.Core.Path.{_≡_, refl, sym, ap, ap₂, _∙_}
+use mathlib.Core.Bool.{Bool, true, false, _||_, cond}
+use mathlib.Core.List.{List}
 use mathlib.Core.Logic.{_≢_}
-use Prim.Native.Nat.{_<_}
+use Prim.Native.Nat.{ℕ, _+_, _*_, _/_, _≤_, _<_}
 use native.Mathlib.Omega.{arith}
+use lib.Dec.{eqb, ltb}
+use borrow.Author.Tests.{ne-eqb, ltb-true, ltb-false}
+use Rattle.refusals.specs.RefusalLaws.{full-zero, split-zero, transfer-within}
+use Rattle.vram.specs.declared.Vram.{Vram}
 use Rattle.vram.specs.declared.Cycle.{Cycle}
 use Rattle.vram.specs.declared.Cycle.the-variants.{WordWrite, BlockWrite, LoadColour, LoadMask, ResetRefresh, FullTransfer, SplitTransfer}
+use Rattle.vram.specs.State.{withColour, withMask, other, ruled}
+use Rattle.vram.specs.Memory.{puts, copied}
 use Rattle.vram.specs.Board.{Board, board, effect}
+use Rattle.vram.specs.Refusal.{refusal}
 use Rattle.vram.specs.Step.{number, step}
 use Rattle.vram.specs.StepLaws.{step-acts, step-holds}
 use Rattle.vram.specs.Kinds.{tagOf, loads}
+use Rattle.vram.specs.Writes.{Writes, nothing, writes, written}
+use Rattle.vram.specs.Sets.{Sets, registers, sets, sent, effect-is, effect-writes}
+
+-- a state with these colour and mask registers and no other change
+abbrev pub recoloured : Vram → Vram → Vram
+recoloured s t = withMask (withColour s (t .colour)) (t .mask) (t .persistent)
+
+pub record Kept (c : Cycle) (s : Vram) : Type 0 where
+  -- only a word write (1) and a block write (2) touch the memory, and they touch nothing else
+  pub memory : 2 < tagOf c → writes c s ≡ nothing
+  pub others : tagOf c < 3 → sets c s ≡ registers s
+  -- only a colour load (3) changes the colour register
+  pub colour : tagOf c ≢ 3 → sets c s .state .colour ≡ s .colour
+  -- only a mask load (4) changes the mask register, and only it and a reset refresh (5) change its persistence
+  pub mask : tagOf c ≢ 4 → sets c s .state .mask ≡ s .mask
+  pub persistent : tagOf c ≢ 4 → tagOf c ≢ 5 → sets c s .state .persistent ≡ s .persistent
+  -- only transfers (6 and 7) change the serial register, the pointer and the waiting tap
+  pub serial : tagOf c ≢ 6 → tagOf c ≢ 7 → sets c s ≡ registers (recoloured s (sets c s .state))
+  -- only a full transfer (6) counts as one made
+  pub loaded : sets c s .state .loaded ≡ loads c (s .loaded)
+  -- a cycle that is not refused keeps the state's rule, and copies within the memory and the serial register
+  pub rule : (rows : ℕ) → refusal rows (s .loaded) c ≡ 0 → ruled s ≡ true → ruled (sets c s .state) ≡ true
+  pub copy : (words : ℕ) → refusal (words / 512) (s .loaded) c ≡ 0 → (sets c s .from + sets c s .count ≤ words) × (sets c s .to + sets c s .count ≤ 256)
+
+either : (p : Bool) → p ≡ (p || false)
+either true = refl
+either false = refl
+
+always : (p : Bool) → true ≡ (p || true)
+always true = refl
+always false = refl
+
+other-within : (p : ℕ) → 128 * other p + 128 ≤ 256
+other-within p = go (ltb p 128)
+  where
+    go : (t : Bool) → 128 * cond t 1 0 + 128 ≤ 256
+    go true = omega arith
+    go false = omega arith
+
+-- the other half is another half
+other-half : (p t : ℕ) → t ≤ 127 → eqb ((128 * other p + t) / 128) (p / 128) ≡ false
+other-half p t h = ne-eqb _ _ (go (ltb p 128) refl)
+  where
+    go : (u : Bool) → ltb p 128 ≡ u → (128 * cond u 1 0 + t) / 128 ≡ p / 128 → ⊥
+    go true e q = let k : p < 128 = ltb-true p 128 e in omega arith
+    go false e q = let k : 128 ≤ p = ltb-false p 128 e in omega arith
+
+pub kept : (c : Cycle) (s : Vram) → Kept c s
+unfolding writes sets tagOf loads refusal ruled
+kept (WordWrite row column word masking mask strobes) s =
+    record {
+      memory = λ h. absurd (omega arith);
+      others = λ h. refl;
+      colour = λ h. refl;
+      mask = λ h. refl;
+      persistent = λ h k. refl;
+      serial = λ h k. refl;
+      loaded = either (s .loaded);
+      rule = λ rows z h. h;
+      copy = λ words z. (omega arith, omega arith);
+    }
+kept (BlockWrite row column columns masking mask strobes) s =
+    record {
+      memory = λ h. absurd (omega arith);
+      others = λ h. refl;
+      colour = λ h. refl;
+      mask = λ h. refl;
+      persistent = λ h k. refl;
+      serial = λ h k. refl;
+      loaded = either (s .loaded);
+      rule = λ rows z h. h;
+      copy = λ words z. (omega arith, omega arith);
+    }
+kept (LoadColour word strobes) s =
+    record {
+      memory = λ h. refl;
+      others = λ h. absurd (omega arith);
+      colour = λ h. absurd (h refl);
+      mask = λ h. refl;
+      persistent = λ h k. refl;
+      serial = λ h k. refl;
+      loaded = either (s .loaded);
+      rule = λ rows z h. h;
+      copy = λ words z. (omega arith, omega arith);
+    }
+kept (LoadMask word strobes) s =
+    record {
+      memory = λ h. refl;
+      others = λ h. absurd (omega arith);
+      colour = λ h. refl;
+      mask = λ h. absurd (h refl);
+      persistent = λ h k. absurd (h refl);
+      serial = λ h k. refl;
+      loaded = either (s .loaded);
+      rule = λ rows z h. h;
+      copy = λ words z. (omega arith, omega arith);
+    }
+kept ResetRefresh s =
+    record {
+      memory = λ h. refl;
+      others = λ h. absurd (omega arith);
+      colour = λ h. refl;
+      mask = λ h. refl;
+      persistent = λ h k. absurd (k refl);
+      serial = λ h k. refl;
+      loaded = either (s .loaded);
+      rule = λ rows z h. h;
+      copy = λ words z. (omega arith, omega arith);
+    }
+kept (FullTransfer row half tap) s =
+    record {
+      memory = λ h. refl;
+      others = λ h. absurd (omega arith);
+      colour = λ h. refl;
+      mask = λ h. refl;
+      persistent = λ h k. refl;
+      serial = λ h k. absurd (h refl);
+      loaded = always (s .loaded);
+      rule = λ rows z h. refl;
+      copy = λ words z. let f = full-zero (words / 512) row half z in (omega (arith, transfer-within words row half 0 256 (f .0) (f .1) (omega arith)), omega arith);
+    }
+kept (SplitTransfer row half tap) s =
+    record {
+      memory = λ h. refl;
+      others = λ h. absurd (omega arith);
+      colour = λ h. refl;
+      mask = λ h. refl;
+      persistent = λ h k. refl;
+      serial = λ h k. absurd (k refl);
+      loaded = either (s .loaded);
+      rule = λ rows z h. let f = split-zero rows (s .loaded) row half tap z in rw (f .made, other-half (s .pointer) tap (f .tap-within));
+      copy = λ words z.
+          let f = split-zero (words / 512) (s .loaded) row half tap z in
+          let o = other-within (s .pointer) in
+          (transfer-within words row half (128 * other (s .pointer)) 128 (f .row-fitted) (f .half-within) o, o);
+    }
+
+-- ---- so a cycle, refused or not, keeps what its tag does not change
 
 module _ (b : Board) where
-  -- ---- only a word write (1) and a block write (2) touch the memory
-
-  effect-memory : (c : Cycle) → 2 < tagOf c → effect c b .memory ≡ b .memory
-  unfolding effect tagOf
-  effect-memory (WordWrite row column word masking mask strobes) h = absurd (omega arith)
-  effect-memory (BlockWrite row column columns masking mask strobes) h = absurd (omega arith)
-  effect-memory (LoadColour word strobes) h = refl
-  effect-memory (LoadMask word strobes) h = refl
-  effect-memory ResetRefresh h = refl
-  effect-memory (FullTransfer row half tap) h = refl
-  effect-memory (SplitTransfer row half tap) h = refl
+  state-is : (c : Cycle) → effect c b .state ≡ sets c (b .state) .state
+  state-is c = ap (λ (x : Board). x .state) (effect-is c b)
 
   pub memory-kept : (c : Cycle) → 2 < tagOf c → step c b .memory ≡ b .memory
-  memory-kept c h = step-holds (λ x. x .memory ≡ b .memory) effect c b refl (λ z. effect-memory c h)
-
-  -- and touch nothing else
-  effect-only : (c : Cycle) → tagOf c < 3 → effect c b ≡ board (b .state) (effect c b .memory) (b .serial)
-  unfolding effect tagOf
-  effect-only (WordWrite row column word masking mask strobes) h = refl
-  effect-only (BlockWrite row column columns masking mask strobes) h = refl
-  effect-only (LoadColour word strobes) h = absurd (omega arith)
-  effect-only (LoadMask word strobes) h = absurd (omega arith)
-  effect-only ResetRefresh h = absurd (omega arith)
-  effect-only (FullTransfer row half tap) h = absurd (omega arith)
-  effect-only (SplitTransfer row half tap) h = absurd (omega arith)
+  unfolding puts
+  memory-kept c h =
+      step-holds (λ x. x .memory ≡ b .memory) effect c b refl
+      (λ z. effect-writes c b ∙ ap (λ (w : Writes). written w (b .memory)) (kept c (b .state) .memory h))
 
   pub only-memory : (c : Cycle) → tagOf c < 3 → step c b ≡ board (b .state) (step c b .memory) (b .serial)
-  only-memory c h = step-holds (λ x. x ≡ board (b .state) (x .memory) (b .serial)) effect c b refl (λ z. effect-only c h)
-
-  -- ---- only a colour load (3) changes the colour register
-
-  effect-colour : (c : Cycle) → tagOf c ≢ 3 → effect c b .state .colour ≡ b .state .colour
-  unfolding effect tagOf
-  effect-colour (WordWrite row column word masking mask strobes) h = refl
-  effect-colour (BlockWrite row column columns masking mask strobes) h = refl
-  effect-colour (LoadColour word strobes) h = absurd (h refl)
-  effect-colour (LoadMask word strobes) h = refl
-  effect-colour ResetRefresh h = refl
-  effect-colour (FullTransfer row half tap) h = refl
-  effect-colour (SplitTransfer row half tap) h = refl
+  unfolding copied
+  only-memory c h =
+      step-holds (λ x. x ≡ board (b .state) (x .memory) (b .serial)) effect c b refl
+      (λ z. effect-is c b ∙ ap₂ (λ (t : Sets) (m : List ℕ). board (t .state) m (sent t (b .memory) (b .serial))) (kept c (b .state) .others h) (sym (effect-writes c b)))
 
   pub colour-kept : (c : Cycle) → tagOf c ≢ 3 → step c b .state .colour ≡ b .state .colour
-  colour-kept c h = step-holds (λ x. x .state .colour ≡ b .state .colour) effect c b refl (λ z. effect-colour c h)
-
-  -- ---- only a mask load (4) changes the mask register
-
-  effect-mask : (c : Cycle) → tagOf c ≢ 4 → effect c b .state .mask ≡ b .state .mask
-  unfolding effect tagOf
-  effect-mask (WordWrite row column word masking mask strobes) h = refl
-  effect-mask (BlockWrite row column columns masking mask strobes) h = refl
-  effect-mask (LoadColour word strobes) h = refl
-  effect-mask (LoadMask word strobes) h = absurd (h refl)
-  effect-mask ResetRefresh h = refl
-  effect-mask (FullTransfer row half tap) h = refl
-  effect-mask (SplitTransfer row half tap) h = refl
+  colour-kept c h =
+      step-holds (λ x. x .state .colour ≡ b .state .colour) effect c b refl (λ z. ap (λ (x : Vram). x .colour) (state-is c) ∙ kept c (b .state) .colour h)
 
   pub mask-kept : (c : Cycle) → tagOf c ≢ 4 → step c b .state .mask ≡ b .state .mask
-  mask-kept c h = step-holds (λ x. x .state .mask ≡ b .state .mask) effect c b refl (λ z. effect-mask c h)
-
-  -- ---- only a mask load (4) and a reset refresh (5) change its persistence
-
-  effect-persistent : (c : Cycle) → tagOf c ≢ 4 → tagOf c ≢ 5 → effect c b .state .persistent ≡ b .state .persistent
-  unfolding effect tagOf
-  effect-persistent (WordWrite row column word masking mask strobes) h k = refl
-  effect-persistent (BlockWrite row column columns masking mask strobes) h k = refl
-  effect-persistent (LoadColour word strobes) h k = refl
-  effect-persistent (LoadMask word strobes) h k = absurd (h refl)
-  effect-persistent ResetRefresh h k = absurd (k refl)
-  effect-persistent (FullTransfer row half tap) h k = refl
-  effect-persistent (SplitTransfer row half tap) h k = refl
+  mask-kept c h =
+      step-holds (λ x. x .state .mask ≡ b .state .mask) effect c b refl (λ z. ap (λ (x : Vram). x .mask) (state-is c) ∙ kept c (b .state) .mask h)
 
   pub persistent-kept : (c : Cycle) → tagOf c ≢ 4 → tagOf c ≢ 5 → step c b .state .persistent ≡ b .state .persistent
-  persistent-kept c h k = step-holds (λ x. x .state .persistent ≡ b .state .persistent) effect c b refl (λ z. effect-persistent c h k)
+  persistent-kept c h k =
+      step-holds (λ x. x .state .persistent ≡ b .state .persistent) effect c b refl
+      (λ z. ap (λ (x : Vram). x .persistent) (state-is c) ∙ kept c (b .state) .persistent h k)
 
-  -- ---- only transfers (6 and 7) change the serial register, the pointer and the waiting tap
+  -- ---- the serial register and the serial state
 
   pub record SerialKept (x : Board) : Type 0 where
     pub register : x .serial ≡ b .serial
@@ -93,30 +194,24 @@ module _ (b : Board) where
     pub place : x .state .pointer ≡ b .state .pointer
     pub tap : x .state .waiting ≡ b .state .waiting
 
-  effect-serial : (c : Cycle) → tagOf c < 6 → SerialKept (effect c b)
-  unfolding effect tagOf
-  effect-serial (WordWrite row column word masking mask strobes) h = record { register = refl; made = refl; place = refl; tap = refl }
-  effect-serial (BlockWrite row column columns masking mask strobes) h = record { register = refl; made = refl; place = refl; tap = refl }
-  effect-serial (LoadColour word strobes) h = record { register = refl; made = refl; place = refl; tap = refl }
-  effect-serial (LoadMask word strobes) h = record { register = refl; made = refl; place = refl; tap = refl }
-  effect-serial ResetRefresh h = record { register = refl; made = refl; place = refl; tap = refl }
-  effect-serial (FullTransfer row half tap) h = absurd (omega arith)
-  effect-serial (SplitTransfer row half tap) h = absurd (omega arith)
+  effect-serial : (c : Cycle) → tagOf c ≢ 6 → tagOf c ≢ 7 → SerialKept (effect c b)
+  unfolding copied
+  effect-serial c h k =
+      let e = kept c (b .state) .serial h k in
+      record {
+        register = ap (λ (x : Board). x .serial) (effect-is c b) ∙ ap (λ (t : Sets). sent t (b .memory) (b .serial)) e;
+        made = ap (λ (x : Vram). x .loaded) (state-is c) ∙ ap (λ (t : Sets). t .state .loaded) e;
+        place = ap (λ (x : Vram). x .pointer) (state-is c) ∙ ap (λ (t : Sets). t .state .pointer) e;
+        tap = ap (λ (x : Vram). x .waiting) (state-is c) ∙ ap (λ (t : Sets). t .state .waiting) e;
+      }
 
-  pub serial-kept : (c : Cycle) → tagOf c < 6 → SerialKept (step c b)
-  serial-kept c h = step-holds SerialKept effect c b (record { register = refl; made = refl; place = refl; tap = refl }) (λ z. effect-serial c h)
+  pub serial-kept : (c : Cycle) → tagOf c ≢ 6 → tagOf c ≢ 7 → SerialKept (step c b)
+  serial-kept c h k = step-holds SerialKept effect c b (record { register = refl; made = refl; place = refl; tap = refl }) (λ z. effect-serial c h k)
 
   -- ---- what `loaded` is after a cycle
 
-  effect-loaded : (c : Cycle) → effect c b .state .loaded ≡ loads c (b .state .loaded)
-  unfolding effect loads
-  effect-loaded (WordWrite row column word masking mask strobes) = refl
-  effect-loaded (BlockWrite row column columns masking mask strobes) = refl
-  effect-loaded (LoadColour word strobes) = refl
-  effect-loaded (LoadMask word strobes) = refl
-  effect-loaded ResetRefresh = refl
-  effect-loaded (FullTransfer row half tap) = refl
-  effect-loaded (SplitTransfer row half tap) = refl
+  pub effect-loaded : (c : Cycle) → effect c b .state .loaded ≡ loads c (b .state .loaded)
+  effect-loaded c = ap (λ (x : Vram). x .loaded) (state-is c) ∙ kept c (b .state) .loaded
 
   pub step-loaded : (c : Cycle) → number c b ≡ 0 → step c b .state .loaded ≡ loads c (b .state .loaded)
   step-loaded c z = ap (λ (x : Board). x .state .loaded) (step-acts effect c b z) ∙ effect-loaded c

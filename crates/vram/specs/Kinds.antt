@@ -1,6 +1,6 @@
--- Kinds of cycles: document 01's tags, the row that a write names, and what a full transfer makes of `loaded`. Assumes nothing.
+-- Kinds of cycles: document 01's tags, what a cycle writes to, and what a full transfer makes of `loaded`. Assumes nothing.
 use Prim.Native.Nat.{ℕ}
-use mathlib.Core.Bool.{Bool, true, false}
+use mathlib.Core.Bool.{Bool, false, _||_}
 use lib.Dec.{eqb}
 use Rattle.vram.specs.declared.Cycle.{Cycle}
 use Rattle.vram.specs.declared.Cycle.the-variants.{WordWrite, BlockWrite, LoadColour, LoadMask, ResetRefresh, FullTransfer, SplitTransfer}
@@ -14,22 +14,30 @@ tagOf ResetRefresh = 5
 tagOf (FullTransfer row half tap) = 6
 tagOf (SplitTransfer row half tap) = 7
 
+-- what it writes to: nothing of the memory, a word, or the block that holds a word; by row and column
+pub data Target : Type 0 where
+  Nothing : Target
+  OneWord : ℕ → ℕ → Target
+  OneBlock : ℕ → ℕ → Target
+
+unfoldable pub targetOf : Cycle → Target
+targetOf (WordWrite row column word masking mask strobes) = OneWord row column
+targetOf (BlockWrite row column columns masking mask strobes) = OneBlock row column
+targetOf (LoadColour word strobes) = Nothing
+targetOf (LoadMask word strobes) = Nothing
+targetOf ResetRefresh = Nothing
+targetOf (FullTransfer row half tap) = Nothing
+targetOf (SplitTransfer row half tap) = Nothing
+
+abbrev inRow : ℕ → Target → Bool
+inRow r Nothing = false
+inRow r (OneWord row column) = eqb row r
+inRow r (OneBlock row column) = eqb row r
+
 -- a word or block write that names row r
 unfoldable pub names : ℕ → Cycle → Bool
-names r (WordWrite row column word masking mask strobes) = eqb row r
-names r (BlockWrite row column columns masking mask strobes) = eqb row r
-names r (LoadColour word strobes) = false
-names r (LoadMask word strobes) = false
-names r ResetRefresh = false
-names r (FullTransfer row half tap) = false
-names r (SplitTransfer row half tap) = false
+names r c = inRow r (targetOf c)
 
--- whether a full transfer has been made, after a cycle
+-- whether a full transfer (tag 6) has been made, after a cycle
 unfoldable pub loads : Cycle → Bool → Bool
-loads (WordWrite row column word masking mask strobes) made = made
-loads (BlockWrite row column columns masking mask strobes) made = made
-loads (LoadColour word strobes) made = made
-loads (LoadMask word strobes) made = made
-loads ResetRefresh made = made
-loads (FullTransfer row half tap) made = true
-loads (SplitTransfer row half tap) made = made
+loads c made = made || eqb (tagOf c) 6

@@ -13,6 +13,7 @@ pub mod MemoryLaws
 pub mod RefusalLaws
 pub mod StepLaws
 pub mod Writes
+pub mod Sets
 pub mod CycleLaws
 pub mod KeptLaws
 pub mod AimLaws

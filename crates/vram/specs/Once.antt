@@ -8,11 +8,11 @@ use Rattle.vram.specs.declared.Vram.{Vram}
 use Rattle.vram.specs.declared.Cycle.{Cycle}
 use Rattle.vram.specs.declared.Answered.{Answered}
 use Rattle.vram.specs.declared.Clocked.{Clocked}
+use Rattle.vram.specs.declared.Moved.{Moved}
 use Rattle.vram.specs.declared.Word.{Word}
 use Rattle.vram.specs.State.{fresh, ruled}
 use Rattle.vram.specs.Board.{board}
-use Rattle.vram.specs.Refusal.{given, refusal}
-use Rattle.vram.specs.Serial.{half, through}
+use Rattle.vram.specs.Refusal.{given}
 use Rattle.vram.specs.Calls.{answered, Outcome, outcome, cycleCall, readCall, clockCall, clocksCall}
 
 abbrev pub Fresh : Unit {0} → Vram → Type 0
@@ -50,26 +50,14 @@ ClocksOnce (s, q) r = r ≡ clockCall s q
 pub clock-once : Determined ClocksOnce
 clock-once = by-equation (λ (i : Vram × List ℕ). clockCall (i .0) (i .1))
 
-abbrev pub ClocksOften : Vram × ℕ → Answered → Type 0
+abbrev pub ClocksOften : Vram × ℕ → Moved → Type 0
 ClocksOften (s, k) r = r ≡ clocksCall s k
 
 pub clocks-once : Determined ClocksOften
 clocks-once = by-equation (λ (i : Vram × ℕ). clocksCall (i .0) (i .1))
-
-abbrev pub LeadsThrough : Vram → ℕ → Type 0
-LeadsThrough s r = r ≡ through half (s .pointer)
-
-pub through-once : Determined LeadsThrough
-through-once = by-equation (λ (s : Vram). through half (s .pointer))
 
 abbrev pub RefusesGiven : Vram × ℕ × ℕ → ℕ → Type 0
 RefusesGiven (s, words, serial) r = r ≡ given s words serial
 
 pub given-once : Determined RefusesGiven
 given-once = by-equation (λ (i : Vram × ℕ × ℕ). given (i .0) (i .1) (i .2))
-
-abbrev pub RefusesCycle : Cycle × ℕ × Bool → ℕ → Type 0
-RefusesCycle (c, rows, loaded) r = r ≡ refusal rows loaded c
-
-pub refusal-once : Determined RefusesCycle
-refusal-once = by-equation (λ (i : Cycle × ℕ × Bool). refusal (i .1) (i .2) (i .0))

@@ -24,9 +24,12 @@ use Rattle.vram.specs.RefusalLaws.{given-zero, given-rule}
 use Rattle.vram.specs.Step.{givenOf, rowsOf, number, step, run}
 use Rattle.vram.specs.StepLaws.{number-zero, step-holds, run-holds}
 use Rattle.vram.specs.Kinds.{names}
-use Rattle.vram.specs.Writes.{writes, written, effect-writes, writes-within, writes-elsewhere, written-length, rowOf, written-row}
-use Rattle.vram.specs.Serial.{half, at, after, moved, clockIn, clocksIn}
-use Rattle.vram.specs.SerialLaws.{Partition}
+use Rattle.vram.specs.Writes.{writes, written, written-length, rowOf, written-row}
+use Rattle.vram.specs.Sets.{sets, effect-is, effect-writes}
+use Rattle.vram.specs.KeptLaws.{kept}
+use Rattle.vram.specs.AimLaws.{aimed}
+use Rattle.vram.specs.Serial.{at, after, moved, clockIn, clocksIn, lengthOf, clocks}
+use Rattle.vram.specs.SerialLaws.{Partition, partition}
 
 -- ---- lengths
 
@@ -34,38 +37,20 @@ pub record Sized (x b : Board) : Type 0 where
   pub memory : length (x .memory) ≡ length (b .memory)
   pub serial : length (x .serial) ≡ length (b .serial)
 
-other-lt : (p : ℕ) → 128 * other p + 128 ≤ 256
-other-lt p = go (ltb p 128)
-  where
-    go : (t : Bool) → 128 * cond t 1 0 + 128 ≤ 256
-    go true = omega arith
-    go false = omega arith
-
-effect-sized : (c : Cycle) (b : Board) → number c b ≡ 0 → length (effect c b .serial) ≡ length (b .serial)
-unfolding effect refusal
-effect-sized (WordWrite row column word masking mask strobes) b z = refl
-effect-sized (BlockWrite row column columns masking mask strobes) b z = refl
-effect-sized (LoadColour word strobes) b z = refl
-effect-sized (LoadMask word strobes) b z = refl
-effect-sized ResetRefresh b z = refl
-effect-sized (FullTransfer row half tap) b z =
-    let n = number-zero (FullTransfer row half tap) b z in
+effect-sized : (c : Cycle) (b : Board) → number c b ≡ 0 → Sized (effect c b) b
+effect-sized c b z =
+    let n = number-zero c b z in
     let g = given-zero (b .state) (length (b .memory)) (length (b .serial)) (n .0) in
-    let f = full-zero (rowsOf b) row half (n .1) in
-    let w = transfer-within (length (b .memory)) row half 0 256 (f .0) (f .1) (omega arith) in
-    copied-length (b .memory) _ (b .serial) 0 256 (omega arith) (omega (arith, g .register))
-effect-sized (SplitTransfer row half tap) b z =
-    let n = number-zero (SplitTransfer row half tap) b z in
-    let g = given-zero (b .state) (length (b .memory)) (length (b .serial)) (n .0) in
-    let f = split-zero (rowsOf b) (b .state .loaded) row half tap (n .1) in
-    let o = other-lt (b .state .pointer) in
-    copied-length (b .memory) _ (b .serial) _ 128
-    (transfer-within (length (b .memory)) row half (128 * other (b .state .pointer)) 128 (f .row-fitted) (f .half-within) o) (omega (arith, g .register))
+    let k = kept c (b .state) .copy (length (b .memory)) (n .1) in
+    record {
+      memory = ap length (effect-writes c b) ∙ written-length (writes c (b .state)) (b .memory);
+      serial =
+          ap (λ (x : Board). length (x .serial)) (effect-is c b)
+          ∙ copied-length (b .memory) (sets c (b .state) .from) (b .serial) (sets c (b .state) .to) (sets c (b .state) .count) (k .0) (omega (arith, k .1, g .register));
+    }
 
 pub step-sized : (c : Cycle) (b : Board) → Sized (step c b) b
-step-sized c b =
-    step-holds (λ x. Sized x b) effect c b (record { memory = refl; serial = refl })
-    (λ z. record { memory = ap length (effect-writes c b) ∙ written-length (writes c (b .state)) (b .memory); serial = effect-sized c b z })
+step-sized c b = step-holds (λ x. Sized x b) effect c b (record { memory = refl; serial = refl }) (effect-sized c b)
 
 pub run-sized : (l : List Cycle) (b : Board) → Sized (run l b) b
 run-sized l b =
@@ -82,8 +67,8 @@ step-row r c b h = step-holds (λ x. rowOf r (x .memory) ≡ rowOf r (b .memory)
     go : number c b ≡ 0 → rowOf r (written (writes c (b .state)) (b .memory)) ≡ rowOf r (b .memory)
     go z =
         ⊎-elim (λ e. rw e)
-        (λ n. written-row (writes c (b .state)) (b .memory) r n (writes-within (rowsOf b) (b .state .loaded) c (b .state) (number-zero c b z .1)))
-        (writes-elsewhere r c (b .state) h)
+        (λ n. written-row (writes c (b .state)) (b .memory) r n (aimed c (b .state) .within (rowsOf b) (b .state .loaded) (number-zero c b z .1)))
+        (aimed c (b .state) .elsewhere r h)
 
 -- ---- the state's rule says nothing of the colour and mask registers
 
@@ -93,25 +78,9 @@ registers-ruled s colour mask p = refl
 
 -- ---- the state's rule, by a cycle
 
--- the other half is another half
-other-half : (p t : ℕ) → t ≤ 127 → eqb ((128 * other p + t) / 128) (p / 128) ≡ false
-other-half p t h = ne-eqb _ _ (go (ltb p 128) refl)
-  where
-    go : (u : Bool) → ltb p 128 ≡ u → (128 * cond u 1 0 + t) / 128 ≡ p / 128 → ⊥
-    go true e q = let k : p < 128 = ltb-true p 128 e in omega arith
-    go false e q = let k : 128 ≤ p = ltb-false p 128 e in omega arith
-
 effect-ruled : (c : Cycle) (b : Board) → ruled (b .state) ≡ true → number c b ≡ 0 → ruled (effect c b .state) ≡ true
-unfolding effect refusal ruled
-effect-ruled (WordWrite row column word masking mask strobes) b h z = h
-effect-ruled (BlockWrite row column columns masking mask strobes) b h z = h
-effect-ruled (LoadColour word strobes) b h z = h
-effect-ruled (LoadMask word strobes) b h z = h
-effect-ruled ResetRefresh b h z = h
-effect-ruled (FullTransfer row half tap) b h z = refl
-effect-ruled (SplitTransfer row half tap) b h z =
-    let f = split-zero (rowsOf b) (b .state .loaded) row half tap (number-zero (SplitTransfer row half tap) b z .1) in
-    rw (f .made, other-half (b .state .pointer) tap (f .tap-within))
+effect-ruled c b h z =
+    ap (λ (x : Board). ruled (x .state)) (effect-is c b) ∙ kept c (b .state) .rule (rowsOf b) (number-zero c b z .1) h
 
 pub step-ruled : (c : Cycle) (b : Board) → ruled (b .state) ≡ true → ruled (step c b .state) ≡ true
 step-ruled c b h = step-holds (λ x. ruled (x .state) ≡ true) effect c b h (effect-ruled c b h)
@@ -126,8 +95,8 @@ step-given c b = step-holds (λ x. givenOf x ≡ givenOf b) effect c b refl go
     go : number c b ≡ 0 → givenOf (effect c b) ≡ givenOf b
     go z =
         let g = given-zero (b .state) (length (b .memory)) (length (b .serial)) (number-zero c b z .0) in
-        let m : length (effect c b .memory) ≡ length (b .memory) = ap length (effect-writes c b) ∙ written-length (writes c (b .state)) (b .memory) in
-        rw (m, effect-sized c b z)
+        let l = effect-sized c b z in
+        rw (l .memory, l .serial)
         (given-rule (effect c b .state) (b .state) (length (b .memory)) (length (b .serial)) (effect-ruled c b (g .rule) z ∙ sym (g .rule)))
 
 -- ---- the state's rule, by a clock
@@ -172,20 +141,10 @@ module _ (n : ℕ) where
   unfolding clockIn
   clock-places s p = moved-places s p (s .waiting) refl
 
-  moved-loaded : (s : Vram) (w : Waiting) → moved n w s .loaded ≡ s .loaded
-  moved-loaded s None = refl
-  moved-loaded s (Tap tap) = go (eqb (s .pointer % n) (n - 1))
-    where
-      go : (u : Bool) → cond u (at s tap None) (at s (after (s .pointer) 1) (Tap tap)) .loaded ≡ s .loaded
-      go true = refl
-      go false = refl
-
-  pub clocks-loaded : (k : ℕ) (s : Vram) → clocksIn n k s .loaded ≡ s .loaded
-  unfolding clocksIn clockIn
-  clocks-loaded zero s = refl
-  clocks-loaded (suc k) s = clocks-loaded k (clockIn n s) ∙ moved-loaded s (s .waiting)
-
-pub clocks-ruled : (n : ℕ) → Partition n → (k : ℕ) (s : Vram) → Places s → ruled s ≡ true → ruled (clocksIn n k s) ≡ true
+clocksIn-ruled : (n : ℕ) → Partition n → (k : ℕ) (s : Vram) → Places s → ruled s ≡ true → ruled (clocksIn n k s) ≡ true
 unfolding clocksIn
-clocks-ruled n P zero s p h = h
-clocks-ruled n P (suc k) s p h = clocks-ruled n P k (clockIn n s) (clock-places n s p) (clock-ruled n P s (p .place) h)
+clocksIn-ruled n P zero s p h = h
+clocksIn-ruled n P (suc k) s p h = clocksIn-ruled n P k (clockIn n s) (clock-places n s p) (clock-ruled n P s (p .place) h)
+
+pub clocks-ruled : (k : ℕ) (s : Vram) → Places s → ruled s ≡ true → ruled (clocks k s) ≡ true
+clocks-ruled k s p h = clocksIn-ruled (lengthOf s) (partition s) k s p h

@@ -1,4 +1,4 @@
--- The serial port: document 01, "A serial clock". The register is read in partitions of n places; n is the half's length. Assumes nothing.
+-- The serial port: document 01, "A serial clock". The register is read in partitions of n places. Assumes nothing.
 use Prim.Native.Nat.{ℕ, zero, suc, _+_, _-_, _%_}
 use mathlib.Core.Bool.{cond}
 use mathlib.Core.List.{List, [], _∷_}
@@ -9,10 +9,6 @@ use Rattle.vram.specs.declared.Waiting.{Waiting}
 use Rattle.vram.specs.declared.Waiting.the-variants.{None, Tap}
 use Rattle.vram.specs.State.{withSerial}
 
--- the half's length
-abbrev pub half : ℕ
-half = 128
-
 -- the state at another place, with this tap waiting
 abbrev pub at : Vram → ℕ → Waiting → Vram
 at s place w = withSerial s (s .loaded) place w
@@ -22,8 +18,8 @@ abbrev pub after : ℕ → ℕ → ℕ
 after place k = (place + k) % 256
 
 -- how many clocks lead through the end of the place's partition
-abbrev pub through : ℕ → ℕ → ℕ
-through n place = n - place % n
+abbrev pub throughIn : ℕ → ℕ → ℕ
+throughIn n place = n - place % n
 
 -- at a partition's last place to the waiting tap, which is used up; otherwise to the next place
 abbrev pub moved : ℕ → Waiting → Vram → Vram
@@ -42,11 +38,19 @@ unfoldable pub wordsIn : ℕ → ℕ → Vram → List ℕ → List ℕ
 wordsIn n zero s r = []
 wordsIn n (suc k) s r = getD r (s .pointer) 0 ∷ wordsIn n k (clockIn n s) r
 
+-- ---- by the length of the state's own partitions: a half of the register
+
+unfoldable pub lengthOf : Vram → ℕ
+lengthOf s = 128
+
+abbrev pub through : Vram → ℕ
+through s = throughIn (lengthOf s) (s .pointer)
+
 abbrev pub clock : Vram → Vram
-clock = clockIn half
+clock s = clockIn (lengthOf s) s
 
 abbrev pub clocks : ℕ → Vram → Vram
-clocks = clocksIn half
+clocks k s = clocksIn (lengthOf s) k s
 
 abbrev pub words : ℕ → Vram → List ℕ → List ℕ
-words = wordsIn half
+words k s r = wordsIn (lengthOf s) k s r

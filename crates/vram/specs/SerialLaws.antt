@@ -1,45 +1,48 @@
--- The serial pointer's motion, over the partition's length. Assumes nothing.
+-- The serial pointer's motion, over the length of a partition, and then by each state's own. Assumes nothing.
 use mathlib.Core.Path.{_≡_, refl, sym, ap, _∙_}
+use mathlib.Core.Bool.{Bool, true, false, cond}
 use mathlib.Core.List.{List, [], _∷_, _++_}
 use Prim.Native.Nat.{ℕ, zero, suc, _+_, _-_, _/_, _%_, _≤_, _<_}
 use native.Mathlib.Omega.{arith}
 use native.Mathlib.Nat.{mod-eq-of-lt, add-zero, zero-add}
+use lib.Dec.{eqb}
 use lib.ListN.{length, getD, take, drop}
 use lib.Seq.{drop-cons}
 use borrow.Author.Tests.{eq-eqb, ne-eqb}
 use Rattle.vram.specs.declared.Vram.{Vram}
 use Rattle.vram.specs.declared.Waiting.{Waiting}
 use Rattle.vram.specs.declared.Waiting.the-variants.{None, Tap}
-use Rattle.vram.specs.Serial.{half, at, after, through, moved, clockIn, clocksIn, wordsIn}
+use Rattle.vram.specs.State.{withSerial}
+use Rattle.vram.specs.Serial.{at, after, throughIn, moved, clockIn, clocksIn, wordsIn, lengthOf, through, clock, clocks, words}
 
 -- ---- a run of clocks is a run and then a run
 
-pub clocks-add : (n j k : ℕ) (s : Vram) → clocksIn n (j + k) s ≡ clocksIn n k (clocksIn n j s)
+pub clocksIn-add : (n j k : ℕ) (s : Vram) → clocksIn n (j + k) s ≡ clocksIn n k (clocksIn n j s)
 unfolding clocksIn
-clocks-add n zero k s = ap (λ (x : ℕ). clocksIn n x s) (zero-add k)
-clocks-add n (suc j) k s =
+clocksIn-add n zero k s = ap (λ (x : ℕ). clocksIn n x s) (zero-add k)
+clocksIn-add n (suc j) k s =
     let e : suc j + k ≡ suc (j + k) = omega arith in
-    rw e (clocks-add n j k (clockIn n s))
+    rw e (clocksIn-add n j k (clockIn n s))
 
-pub words-add : (n j k : ℕ) (s : Vram) (r : List ℕ) → wordsIn n (j + k) s r ≡ wordsIn n j s r ++ wordsIn n k (clocksIn n j s) r
+pub wordsIn-add : (n j k : ℕ) (s : Vram) (r : List ℕ) → wordsIn n (j + k) s r ≡ wordsIn n j s r ++ wordsIn n k (clocksIn n j s) r
 unfolding wordsIn clocksIn
-words-add n zero k s r = ap (λ (x : ℕ). wordsIn n x s r) (zero-add k)
-words-add n (suc j) k s r =
+wordsIn-add n zero k s r = ap (λ (x : ℕ). wordsIn n x s r) (zero-add k)
+wordsIn-add n (suc j) k s r =
     let e : suc j + k ≡ suc (j + k) = omega arith in
-    rw e (ap (λ (t : List ℕ). getD r (s .pointer) 0 ∷ t) (words-add n j k (clockIn n s) r))
+    rw e (ap (λ (t : List ℕ). getD r (s .pointer) 0 ∷ t) (wordsIn-add n j k (clockIn n s) r))
 
-pub words-none : (n : ℕ) (s : Vram) (r : List ℕ) → wordsIn n 0 s r ≡ []
+pub wordsIn-none : (n : ℕ) (s : Vram) (r : List ℕ) → wordsIn n 0 s r ≡ []
 unfolding wordsIn
-words-none n s r = refl
+wordsIn-none n s r = refl
 
-pub words-length : (n k : ℕ) (s : Vram) (r : List ℕ) → length (wordsIn n k s r) ≡ k
+pub wordsIn-length : (n k : ℕ) (s : Vram) (r : List ℕ) → length (wordsIn n k s r) ≡ k
 unfolding wordsIn
-words-length n zero s r = refl
-words-length n (suc k) s r = ap suc (words-length n k (clockIn n s) r)
+wordsIn-length n zero s r = refl
+wordsIn-length n (suc k) s r = ap suc (wordsIn-length n k (clockIn n s) r)
 
-pub clock-is : (n : ℕ) (s : Vram) → clockIn n s ≡ clocksIn n 1 s
+pub clockIn-is : (n : ℕ) (s : Vram) → clockIn n s ≡ clocksIn n 1 s
 unfolding clocksIn
-clock-is n s = refl
+clockIn-is n s = refl
 
 -- ---- what the laws ask of a partition's length: its places lie in one half, in order
 
@@ -47,15 +50,30 @@ pub record Partition (n : ℕ) : Type 0 where
   pub next : (p : ℕ) → p < 256 → p % n + 1 < n → (p + 1 < 256) × ((p + 1) % n ≡ p % n + 1) × ((p + 1) / 128 ≡ p / 128)
   pub within : (p : ℕ) → p % n < n
 
-pub half-partition : Partition half
-half-partition = record { next = λ p h k. (omega arith, omega arith, omega arith); within = λ p. omega arith }
+-- so it is of every state's
+pub partition : (s : Vram) → Partition (lengthOf s)
+unfolding lengthOf
+partition s = record { next = λ p h k. (omega arith, omega arith, omega arith); within = λ p. omega arith }
 
 module _ (n : ℕ) (P : Partition n) where
+  -- a partition ends within the register
+  ends-within : (j p : ℕ) → p < 256 → p % n + suc j ≡ n → p + suc j ≤ 256
+  ends-within zero p h e = omega arith
+  ends-within (suc j) p h e =
+      let g = P .next p h (omega arith) in
+      omega (arith, ends-within j (p + 1) (g .0) (omega (arith, g .1)))
+
+  pub throughIn-within : (p : ℕ) → p < 256 → (0 < throughIn n p) × (p + throughIn n p ≤ 256)
+  throughIn-within p h =
+      let l = P .within p in
+      let e : suc (throughIn n p - 1) ≡ throughIn n p = omega arith in
+      (omega arith, omega (arith, ends-within (throughIn n p - 1) p h (omega arith)))
+
   -- ---- a stretch that does not pass a partition's end is that many places in order
 
-  pub clock-within : (s : Vram) → s .pointer < 256 → s .pointer % n + 1 < n → clockIn n s ≡ at s (s .pointer + 1) (s .waiting)
+  pub clockIn-within : (s : Vram) → s .pointer < 256 → s .pointer % n + 1 < n → clockIn n s ≡ at s (s .pointer + 1) (s .waiting)
   unfolding clockIn
-  clock-within s p h = go (s .waiting)
+  clockIn-within s p h = go (s .waiting)
     where
       e : (s .pointer + 1) % 256 ≡ s .pointer + 1
       e = mod-eq-of-lt (P .next (s .pointer) p h .0)
@@ -64,25 +82,25 @@ module _ (n : ℕ) (P : Partition n) where
       go None = rw e
       go (Tap tap) = rw (ne-eqb (s .pointer % n) (n - 1) (λ z. omega arith), e)
 
-  pub clocks-within : (k : ℕ) (s : Vram) → s .pointer < 256 → s .pointer % n + k < n → clocksIn n k s ≡ at s (s .pointer + k) (s .waiting)
+  pub clocksIn-within : (k : ℕ) (s : Vram) → s .pointer < 256 → s .pointer % n + k < n → clocksIn n k s ≡ at s (s .pointer + k) (s .waiting)
   unfolding clocksIn
-  clocks-within zero s p h = rw add-zero
-  clocks-within (suc k) s p h =
+  clocksIn-within zero s p h = rw add-zero
+  clocksIn-within (suc k) s p h =
       let g = P .next (s .pointer) p (omega arith) in
       let e : s .pointer + suc k ≡ s .pointer + 1 + k = omega arith in
-      rw (clock-within s p (omega arith), e) (clocks-within k (at s (s .pointer + 1) (s .waiting)) (g .0) (rw (g .1) (omega arith)))
+      rw (clockIn-within s p (omega arith), e) (clocksIn-within k (at s (s .pointer + 1) (s .waiting)) (g .0) (rw (g .1) (omega arith)))
 
-  pub words-within : (k : ℕ) (s : Vram) (r : List ℕ) → s .pointer < 256 → s .pointer % n + k ≤ n → s .pointer + k ≤ length r
+  pub wordsIn-within : (k : ℕ) (s : Vram) (r : List ℕ) → s .pointer < 256 → s .pointer % n + k ≤ n → s .pointer + k ≤ length r
       → wordsIn n k s r ≡ take k (drop (s .pointer) r)
   unfolding wordsIn
-  words-within zero s r p h l = refl
-  words-within (suc zero) s r p h l = rw (drop-cons r (s .pointer) 0 (omega arith))
-  words-within (suc (suc k)) s r p h l =
+  wordsIn-within zero s r p h l = refl
+  wordsIn-within (suc zero) s r p h l = rw (drop-cons r (s .pointer) 0 (omega arith))
+  wordsIn-within (suc (suc k)) s r p h l =
       let g = P .next (s .pointer) p (omega arith) in
       let e : s .pointer + 1 ≡ suc (s .pointer) = omega arith in
-      rw (drop-cons r (s .pointer) 0 (omega arith), clock-within s p (omega arith))
+      rw (drop-cons r (s .pointer) 0 (omega arith), clockIn-within s p (omega arith))
       (ap (λ (t : List ℕ). getD r (s .pointer) 0 ∷ t)
-      (words-within (suc k) (at s (s .pointer + 1) (s .waiting)) r (g .0) (rw (g .1) (omega arith)) (omega arith)
+      (wordsIn-within (suc k) (at s (s .pointer + 1) (s .waiting)) r (g .0) (rw (g .1) (omega arith)) (omega arith)
       ∙ ap (λ (x : ℕ). take (suc k) (drop x r)) e))
 
 -- ---- where nothing waits the pointer goes round
@@ -90,17 +108,17 @@ module _ (n : ℕ) (P : Partition n) where
 after-mod : (p k : ℕ) → (p % 256 + k) % 256 ≡ (p + k) % 256
 after-mod p k = omega arith
 
-clock-none : (n : ℕ) (s : Vram) → s .waiting ≡ None → clockIn n s ≡ at s (after (s .pointer) 1) None
+clockIn-none : (n : ℕ) (s : Vram) → s .waiting ≡ None → clockIn n s ≡ at s (after (s .pointer) 1) None
 unfolding clockIn
-clock-none n s w = rw w
+clockIn-none n s w = rw w
 
-pub clocks-none : (n k : ℕ) (s : Vram) → s .pointer < 256 → s .waiting ≡ None → clocksIn n k s ≡ at s (after (s .pointer) k) None
+pub clocksIn-none : (n k : ℕ) (s : Vram) → s .pointer < 256 → s .waiting ≡ None → clocksIn n k s ≡ at s (after (s .pointer) k) None
 unfolding clocksIn
-clocks-none n zero s p w = rw (add-zero, mod-eq-of-lt p, ← w)
-clocks-none n (suc k) s p w =
+clocksIn-none n zero s p w = rw (add-zero, mod-eq-of-lt p, ← w)
+clocksIn-none n (suc k) s p w =
     let e : (s .pointer + 1) % 256 + k ≡ (s .pointer + 1) % 256 + k = refl in
     let f : ((s .pointer + 1) % 256 + k) % 256 ≡ (s .pointer + suc k) % 256 = omega arith in
-    rw (clock-none n s w) (clocks-none n k (at s (after (s .pointer) 1) None) (omega arith) refl ∙ ap (λ (x : ℕ). at s x None) f)
+    rw (clockIn-none n s w) (clocksIn-none n k (at s (after (s .pointer) 1) None) (omega arith) refl ∙ ap (λ (x : ℕ). at s x None) f)
 
 -- ---- past a partition's end the run goes on from the waiting tap, which is used up
 
@@ -118,17 +136,76 @@ module _ (n : ℕ) (P : Partition n) (tap : ℕ) (t : tap < 256) where
   unfolding clocksIn
   passes zero k s p w h =
       let e : 1 + k ≡ suc k = omega arith in
-      rw (e, ends s w (omega arith)) (clocks-none n k (at s tap None) t refl)
+      rw (e, ends s w (omega arith)) (clocksIn-none n k (at s tap None) t refl)
   passes (suc j) k s p w h =
       let g = P .next (s .pointer) p (omega arith) in
       let e : suc (suc j) + k ≡ suc (suc j + k) = omega arith in
       ap (λ (x : ℕ). clocksIn n x s) e
-      ∙ ap (clocksIn n (suc j + k)) (clock-within n P s p (omega arith))
+      ∙ ap (clocksIn n (suc j + k)) (clockIn-within n P s p (omega arith))
       ∙ passes j k (at s (s .pointer + 1) (s .waiting)) (g .0) w (rw (g .1) (omega arith))
 
-  pub clocks-through : (k : ℕ) (s : Vram) → s .pointer < 256 → s .waiting ≡ Tap tap → through n (s .pointer) ≤ k
-      → clocksIn n k s ≡ at s (after tap (k - through n (s .pointer))) None
-  clocks-through k s p w h =
+  pub clocksIn-through : (k : ℕ) (s : Vram) → s .pointer < 256 → s .waiting ≡ Tap tap → throughIn n (s .pointer) ≤ k
+      → clocksIn n k s ≡ at s (after tap (k - throughIn n (s .pointer))) None
+  clocksIn-through k s p w h =
       let l = P .within (s .pointer) in
-      let e : suc (through n (s .pointer) - 1) + (k - through n (s .pointer)) ≡ k = omega arith in
-      ap (λ (x : ℕ). clocksIn n x s) (sym e) ∙ passes (through n (s .pointer) - 1) (k - through n (s .pointer)) s p w (omega arith)
+      let e : suc (throughIn n (s .pointer) - 1) + (k - throughIn n (s .pointer)) ≡ k = omega arith in
+      ap (λ (x : ℕ). clocksIn n x s) (sym e) ∙ passes (throughIn n (s .pointer) - 1) (k - throughIn n (s .pointer)) s p w (omega arith)
+
+-- ---- a clock moves the pointer and uses up the tap; every other register stays
+
+module _ (n : ℕ) where
+  moved-keeps : (s : Vram) (w : Waiting) → moved n w s ≡ at s (moved n w s .pointer) (moved n w s .waiting)
+  moved-keeps s None = refl
+  moved-keeps s (Tap tap) = go (eqb (s .pointer % n) (n - 1))
+    where
+      go : (u : Bool) → cond u (at s tap None) (at s (after (s .pointer) 1) (Tap tap))
+          ≡ at s (cond u (at s tap None) (at s (after (s .pointer) 1) (Tap tap)) .pointer) (cond u (at s tap None) (at s (after (s .pointer) 1) (Tap tap)) .waiting)
+      go true = refl
+      go false = refl
+
+  pub clocksIn-keeps : (k : ℕ) (s : Vram) → clocksIn n k s ≡ at s (clocksIn n k s .pointer) (clocksIn n k s .waiting)
+  unfolding clocksIn clockIn
+  clocksIn-keeps zero s = refl
+  clocksIn-keeps (suc k) s =
+      let t = clocksIn n k (clockIn n s) in
+      clocksIn-keeps k (clockIn n s) ∙ ap (λ (x : Vram). at x (t .pointer) (t .waiting)) (moved-keeps s (s .waiting))
+
+-- ---- the same by the length of the state's own partitions
+
+pub clock-is : (s : Vram) → clock s ≡ clocks 1 s
+clock-is s = clockIn-is (lengthOf s) s
+
+-- a run of clocks keeps colour, mask, persistence and `loaded`
+pub clocks-keep : (k : ℕ) (s : Vram) → clocks k s ≡ withSerial s (s .loaded) (clocks k s .pointer) (clocks k s .waiting)
+clocks-keep k s = clocksIn-keeps (lengthOf s) k s
+
+-- and so the length of its partitions
+length-kept : (s : Vram) (place : ℕ) (w : Waiting) → lengthOf (at s place w) ≡ lengthOf s
+unfolding lengthOf
+length-kept s place w = refl
+
+pub clocks-length : (k : ℕ) (s : Vram) → lengthOf (clocks k s) ≡ lengthOf s
+clocks-length k s = ap lengthOf (clocks-keep k s) ∙ length-kept s (clocks k s .pointer) (clocks k s .waiting)
+
+pub clocks-add : (j k : ℕ) (s : Vram) → clocks (j + k) s ≡ clocks k (clocks j s)
+clocks-add j k s = clocksIn-add (lengthOf s) j k s ∙ ap (λ (n : ℕ). clocksIn n k (clocks j s)) (sym (clocks-length j s))
+
+pub words-add : (j k : ℕ) (s : Vram) (r : List ℕ) → words (j + k) s r ≡ words j s r ++ words k (clocks j s) r
+words-add j k s r = wordsIn-add (lengthOf s) j k s r ∙ ap (λ (n : ℕ). words j s r ++ wordsIn n k (clocks j s) r) (sym (clocks-length j s))
+
+pub words-none : (s : Vram) (r : List ℕ) → words 0 s r ≡ []
+words-none s r = wordsIn-none (lengthOf s) s r
+
+pub words-length : (k : ℕ) (s : Vram) (r : List ℕ) → length (words k s r) ≡ k
+words-length k s r = wordsIn-length (lengthOf s) k s r
+
+module _ (s : Vram) (p : s .pointer < 256) where
+  -- the end of a partition is some clocks off, and within the register
+  pub through-within : (0 < through s) × (s .pointer + through s ≤ 256)
+  through-within = throughIn-within (lengthOf s) (partition s) (s .pointer) p
+
+  -- as many words as lie before it are that many places in order
+  pub words-within : (k : ℕ) (r : List ℕ) → k ≤ through s → s .pointer + k ≤ length r → words k s r ≡ take k (drop (s .pointer) r)
+  words-within k r h l =
+      let w = partition s .within (s .pointer) in
+      wordsIn-within (lengthOf s) (partition s) k s r p (omega arith) l

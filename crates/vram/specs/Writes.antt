@@ -56,43 +56,7 @@ base w = 512 * w .row + w .column
 abbrev pub written : Writes → List ℕ → List ℕ
 written w m = puts m (base w) (w .pen) (w .through) (w .count)
 
--- ---- the laws by cases
-
-pub effect-writes : (c : Cycle) (b : Board) → effect c b .memory ≡ written (writes c (b .state)) (b .memory)
-unfolding effect writes puts
-effect-writes (WordWrite row column word masking mask strobes) b = rw (add-zero (512 * row + column))
-effect-writes (BlockWrite row column columns masking mask strobes) b = refl
-effect-writes (LoadColour word strobes) b = refl
-effect-writes (LoadMask word strobes) b = refl
-effect-writes ResetRefresh b = refl
-effect-writes (FullTransfer row half tap) b = refl
-effect-writes (SplitTransfer row half tap) b = refl
-
--- a cycle that is not refused writes within the row that it names
-pub writes-within : (rows : ℕ) (made : Bool) (c : Cycle) (s : Vram) → refusal rows made c ≡ 0 → writes c s .column + writes c s .count ≤ 512
-unfolding refusal writes
-writes-within rows made (WordWrite row column word masking mask strobes) s z =
-    omega (arith, write-zero rows row column masking mask strobes z .column-within)
-writes-within rows made (BlockWrite row column columns masking mask strobes) s z =
-    omega (arith, write-zero rows row column masking mask strobes z .column-within)
-writes-within rows made (LoadColour word strobes) s z = omega arith
-writes-within rows made (LoadMask word strobes) s z = omega arith
-writes-within rows made ResetRefresh s z = omega arith
-writes-within rows made (FullTransfer row half tap) s z = omega arith
-writes-within rows made (SplitTransfer row half tap) s z = omega arith
-
--- a cycle that names no write to row r writes nothing, or to another row
-pub writes-elsewhere : (r : ℕ) (c : Cycle) (s : Vram) → names r c ≡ false → (writes c s .count ≡ 0) ⊎ (writes c s .row ≢ r)
-unfolding names writes
-writes-elsewhere r (WordWrite row column word masking mask strobes) s h = inr (eqb-false row r h)
-writes-elsewhere r (BlockWrite row column columns masking mask strobes) s h = inr (eqb-false row r h)
-writes-elsewhere r (LoadColour word strobes) s h = inl refl
-writes-elsewhere r (LoadMask word strobes) s h = inl refl
-writes-elsewhere r ResetRefresh s h = inl refl
-writes-elsewhere r (FullTransfer row half tap) s h = inl refl
-writes-elsewhere r (SplitTransfer row half tap) s h = inl refl
-
--- ---- and those without
+-- ---- laws, without cases on the cycle
 
 module _ (w : Writes) (m : List ℕ) where
   pub written-length : length (written w m) ≡ length m

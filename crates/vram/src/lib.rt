@@ -86,6 +86,13 @@ pub struct Clocked {
     pub number: u32,
 }
 
+// The same of a run of clocks, with how many more lead through the end of the partition.
+pub struct Moved {
+    pub state: Vram,
+    pub through: u32,
+    pub number: u32,
+}
+
 // What a word read gives back.
 #[repr(C)]
 pub struct Word {

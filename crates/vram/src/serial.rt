@@ -1,16 +1,13 @@
 // The serial port: the clock, and how a run of clocks moves. The tap is used up and the pointer advanced here and nowhere else.
 ghost use mathlib.Core.Path.{_≡_};
 ghost use Prim.Native.Nat.{_<_};
-ghost use Rattle.vram.specs.Serial.{half, after, through, clocks};
+ghost use Rattle.vram.specs.Serial.{after, lengthOf, through, clocks};
 ghost use Rattle.vram.specs.Calls.{clockCall, clocksCall};
-use crate::Answered;
 use crate::Clocked;
+use crate::Moved;
 use crate::Vram;
 use crate::Waiting;
 use numbers::refuse;
-
-// The half's length.
-const HALF: u8 = 128;
 
 // The place so many after another, 255 going to 0. The second clause is the range of a u8, which the callers' proofs use.
 fn advance(place: u8, count: u32) -> u8
@@ -20,14 +17,22 @@ fn advance(place: u8, count: u32) -> u8
 }
 
 impl Vram {
-    // How many clocks lead through the end of the pointer's half.
-    pub fn through(self) -> u32
-        ensures { λ r. ⌜ r ≡ through half (self .pointer) ⌝ }
+    // The length of a partition: a half of the register.
+    fn length(self) -> u8
+        ensures { λ r. ⌜ (r ≡ lengthOf self) × (0 < r) ⌝ }
     {
-        (HALF - self.pointer % HALF) as u32
+        128
     }
 
-    // The state after some clocks: within the half to a later place; past its end from the waiting tap on, which is used up.
+    // How many clocks lead through the end of the pointer's partition.
+    fn through(self) -> u32
+        ensures { λ r. ⌜ r ≡ through self ⌝ }
+    {
+        let length = self.length();
+        (length - self.pointer % length) as u32
+    }
+
+    // The state after some clocks: within the partition to a later place; past its end from the waiting tap on, which is used up.
     fn moved(self, count: u32) -> Vram
         ensures { λ r. ⌜ r ≡ clocks count self ⌝ }
     {
@@ -70,22 +75,25 @@ impl Vram {
         }
     }
 
-    // The state after some clocks, 0 to 512.
-    pub fn clocks(self, count: u32) -> Answered
+    // The state after some clocks, 0 to 512, and how many more lead through the end of its partition.
+    pub fn clocks(self, count: u32) -> Moved
         ensures { λ r. ⌜ r ≡ clocksCall self count ⌝ }
     {
         let n = refuse(count <= 512, numbers::RUN_OVER, numbers::DONE);
         let n = refuse((count == 0) | self.loaded, numbers::NOT_LOADED, n);
         let n = refuse(self.ruled(), numbers::STATE_EXCLUDED, n);
         if n != numbers::DONE {
-            return Answered {
+            return Moved {
                 state: self,
+                through: 0,
                 number: n,
             };
         }
         let state = self.moved(count);
-        Answered {
+        let through = state.through();
+        Moved {
             state,
+            through,
             number: numbers::DONE,
         }
     }

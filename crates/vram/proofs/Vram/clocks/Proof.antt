@@ -1,6 +1,6 @@
 -- `vram::Vram::clocks` meets its contract. Assumes nothing.
-use Rattle.numbers.specs.RefuseLaws.{refused-is, done-is}
-use Rattle.vram.specs.Calls.{answered, clocksRefusal, clocksCall}
+use Rattle.vram.specs.Calls.{clocksRefusal}
+use Rattle.vram.proofs.Clocks.{clocks-refused, clocks-done}
 use borrow.Author.Needs.{needs}
 use Rattle.vram.proofs.Vram.clocks.Statement.{statement}
 use Rattle.vram.proofs.Vram.clocks.Tie as tie
@@ -18,23 +18,26 @@ refuse-requires-3 : tie.Need-refuse-requires-3
 refuse-requires-3 c κs = search needs
 
 returns : tie.Need-returns
-unfolding clocksCall clocksRefusal
+unfolding clocksRefusal
 returns c =
     let d = c .before in
-    refused-is answered _ _ _ _
+    clocks-refused _ _ _
     (rw (d .before .ruled .ensures, d .before .before .refuse2 .ensures, d .before .before .before .before .refuse .ensures) at (d .refuse3 .ensures))
     (c .if1 .taken)
 
 moved-requires : tie.Need-moved-requires
 moved-requires c κs = search needs
 
+through-requires : tie.Need-through-requires
+through-requires c κs = search needs
+
 returns-2 : tie.Need-returns-2
-unfolding clocksCall clocksRefusal
+unfolding clocksRefusal
 returns-2 c =
-    let d = c .before .before in
-    done-is answered (d .refuse3 .result) _ _ _ _
+    let d = c .before .before .before in
+    clocks-done _ _ (d .refuse3 .result)
     (rw (d .before .ruled .ensures, d .before .before .refuse2 .ensures, d .before .before .before .before .refuse .ensures) at (d .refuse3 .ensures))
-    (c .before .if1 .left) (c .moved .ensures)
+    (c .before .before .if1 .left) (c .before .moved .ensures) (c .through .ensures)
 
 pub clocks-spec : {M : Type 1} → statement M
 clocks-spec =
@@ -46,4 +49,5 @@ clocks-spec =
     refuse-requires-3
     returns
     moved-requires
+    through-requires
     returns-2)
