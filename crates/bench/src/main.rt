@@ -1,6 +1,5 @@
 // Runs the bench cases of document 01 that are not proved, and more, and prints what came. The starred ones are proved in specs/.
 ghost use mathlib.Core.Path.{_≡_};
-ghost use Prim.Native.Nat.{_≤_};
 ghost use lib.ListN.{length};
 use planner::Filled;
 use planner::linkshoar_fill;

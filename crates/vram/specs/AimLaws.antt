@@ -6,7 +6,7 @@ use mathlib.Core.List.{List, [], List·Memᴰ, List·Memᴰ·head}
 use mathlib.Core.Logic.{_≢_, _⊎_, inl, inr, ⊎-elim, ⊎-map}
 use Prim.Native.Nat.{ℕ, _+_, _-_, _*_, _/_, _≤_, _<_}
 use native.Mathlib.Omega.{arith}
-use lib.Dec.{eqb, lit≤}
+use lib.Dec.{lit≤}
 use lib.ListN.{length, getD}
 use borrow.Author.Tests.{eq-eqb, eqb-false}
 use Rattle.numbers.specs.Between.{between-says}

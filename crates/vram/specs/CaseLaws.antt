@@ -1,6 +1,6 @@
 -- The definitions case by case, so that other crates need not open them. Assumes nothing.
 use mathlib.Core.Path.{_≡_, refl, ap, _∙_}
-use mathlib.Core.Bool.{Bool, true, false, _||_}
+use mathlib.Core.Bool.{Bool, _||_}
 use mathlib.Core.List.{List, [], _∷_}
 use mathlib.Core.Logic.{_≢_, inl, ⊎-elim}
 use Prim.Native.Nat.{ℕ, _/_, _≤_, _<_}

@@ -14,8 +14,8 @@ use Rattle.words.specs.Word.{merged, covers, lets}
 use Rattle.words.specs.WordLaws.{merged-bit, covers-both}
 use Rattle.vram.specs.declared.Vram.{Vram}
 use Rattle.vram.specs.declared.Cycle.{Cycle}
-use Rattle.vram.specs.declared.Cycle.the-variants.{WordWrite, BlockWrite, LoadColour}
-use Rattle.vram.specs.State.{withColour}
+use Rattle.vram.specs.declared.Cycle.the-variants.{WordWrite, BlockWrite, LoadColour, LoadMask, ResetRefresh}
+use Rattle.vram.specs.State.{withColour, withMask}
 use Rattle.vram.specs.Board.{Board, board, allowed, effect}
 use Rattle.vram.specs.Refusal.{refusal}
 use Rattle.refusals.specs.RefusalLaws.{Placed, write-zero, word-within, block-within}
@@ -124,6 +124,19 @@ pub colour-load : (b : Board) (word strobes : ℕ) → number (LoadColour word s
     → step (LoadColour word strobes) b ≡ board (withColour (b .state) (merged (b .state .colour) word (covers strobes))) (b .memory) (b .serial)
 unfolding effect
 colour-load b word strobes z = step-acts effect (LoadColour word strobes) b z
+
+-- ---- a mask load: strobed bytes of the mask register are replaced, and it is persistent from now on
+
+pub mask-load : (b : Board) (word strobes : ℕ) → number (LoadMask word strobes) b ≡ 0
+    → step (LoadMask word strobes) b ≡ board (withMask (b .state) (merged (b .state .mask) word (covers strobes)) true) (b .memory) (b .serial)
+unfolding effect
+mask-load b word strobes z = step-acts effect (LoadMask word strobes) b z
+
+-- ---- a reset refresh: the mask is no longer persistent, and stays
+
+pub reset-refresh : (b : Board) → number ResetRefresh b ≡ 0 → step ResetRefresh b ≡ board (withMask (b .state) (b .state .mask) false) (b .memory) (b .serial)
+unfolding effect
+reset-refresh b z = step-acts effect ResetRefresh b z
 
 -- ---- the mask in force and the strobes of a write that is masked, with both strobes, while the mask is not persistent
 

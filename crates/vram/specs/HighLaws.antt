@@ -1,5 +1,5 @@
 -- The high byte of a word, which holds the status mark, after a cycle depends only on high bytes. Assumes nothing.
-use mathlib.Core.Path.{_≡_, refl, sym, ap₂, _∙_, subst}
+use mathlib.Core.Path.{_≡_, refl, sym, ap₂, _∙_}
 use mathlib.Core.Bool.{Bool, true, false, cond}
 use mathlib.Core.List.{List, [], _∷_, map}
 use Prim.Native.Nat.{ℕ, zero, suc, _+_}
@@ -7,7 +7,6 @@ use lib.Dec.{eqb}
 use lib.ListN.{length, getD, set}
 use Rattle.words.specs.Word.{merged, high}
 use Rattle.words.specs.WordLaws.{merged-high}
-use Rattle.vram.specs.declared.Vram.{Vram}
 use Rattle.vram.specs.declared.Cycle.{Cycle}
 use Rattle.vram.specs.ListLaws.{map-set, map-length, map-at}
 use Rattle.vram.specs.Memory.{put, puts, copied}

@@ -16,6 +16,7 @@ pub mod Writes
 pub mod Sets
 pub mod CycleLaws
 pub mod KeptLaws
+pub mod TransferLaws
 pub mod AimLaws
 pub mod SerialLaws
 pub mod RuleLaws

@@ -1,13 +1,13 @@
 -- Laws of writes and copies on a slice of words. Assumes nothing.
-use mathlib.Core.Path.{_≡_, refl, ap, _∙_}
+use mathlib.Core.Path.{_≡_, refl, sym, ap, _∙_}
 use mathlib.Core.Bool.{Bool, true, false, cond}
-use mathlib.Core.List.{List, map, map-append}
+use mathlib.Core.List.{List, _++_, map, map-append}
 use mathlib.Core.Logic.{_≢_, _⊎_, inl, inr, ⊎-elim}
 use Prim.Native.Nat.{ℕ, zero, suc, _+_, _-_, _≤_, _<_}
 use native.Mathlib.Omega.{arith}
 use lib.Dec.{eqb}
-use lib.ListN.{length, getD, set, take, drop, length-set, length-drop}
-use lib.Seq.{length-paste, getD-set-same, getD-set-other, drop-set-lt, drop-set-add, take-set-le}
+use lib.ListN.{length, getD, set, take, drop, length-set, length-take, length-drop, List·getD-append}
+use lib.Seq.{length-paste, length-paste-head, getD-append-add, getD-take, getD-drop, getD-set-same, getD-set-other, drop-set-lt, drop-set-add, take-set-le}
 use borrow.Author.Tests.{eqb-true, eqb-false}
 use Rattle.numbers.specs.Between.{between, between-in, between-says, between-out, same-truth}
 use Rattle.words.specs.Word.{merged}
@@ -125,6 +125,42 @@ module _ (at n : ℕ) where
   puts-part m base new w (suc k) h =
       put-part (puts m base new w k) (base + k) new (w k) (⊎-elim (λ x. inl (omega arith)) (λ x. inr (omega arith)) h)
       ∙ puts-part m base new w k (⊎-elim (λ x. inl (omega arith)) (λ x. inr (omega arith)) h)
+
+-- ---- a word after a copy: one of those copied, or as it was
+
+module _ (m : List ℕ) (from : ℕ) (r : List ℕ) (to n : ℕ) (h : from + n ≤ length m) (k : to + n ≤ length r) where
+  head : length (take to r ++ take n (drop from m)) ≡ to + n
+  head = length-paste-head r to (drop from m) n (omega arith) (simp length-drop (omega arith))
+
+  pub copied-in : (i : ℕ) → i < n → getD (copied m from r to n) (to + i) 0 ≡ getD m (from + i) 0
+  unfolding copied
+  copied-in i l =
+      let e : length (take to r) ≡ to = simp length-take (omega arith) in
+      List·getD-append (take to r ++ take n (drop from m)) (drop (to + n) r) 0 (to + i) (rw head (omega arith))
+      ∙ ap (λ (x : ℕ). getD (take to r ++ take n (drop from m)) (x + i) 0) (sym e)
+      ∙ getD-append-add (take to r) (take n (drop from m)) i 0
+      ∙ getD-take n (drop from m) i 0 l
+      ∙ getD-drop from m i 0
+
+  pub copied-out : (i : ℕ) → (i < to) ⊎ (to + n ≤ i) → getD (copied m from r to n) i 0 ≡ getD r i 0
+  unfolding copied
+  copied-out i o = ⊎-elim below above o
+    where
+      below : i < to → getD (copied m from r to n) i 0 ≡ getD r i 0
+      below l =
+          let e : length (take to r) ≡ to = simp length-take (omega arith) in
+          List·getD-append (take to r ++ take n (drop from m)) (drop (to + n) r) 0 i (rw head (omega arith))
+          ∙ List·getD-append (take to r) (take n (drop from m)) 0 i (rw e l)
+          ∙ getD-take to r i 0 l
+
+      above : to + n ≤ i → getD (copied m from r to n) i 0 ≡ getD r i 0
+      above l =
+          let e : i ≡ to + n + (i - (to + n)) = omega arith in
+          ap (λ (x : ℕ). getD (copied m from r to n) x 0) e
+          ∙ ap (λ (x : ℕ). getD (copied m from r to n) (x + (i - (to + n))) 0) (sym head)
+          ∙ getD-append-add (take to r ++ take n (drop from m)) (drop (to + n) r) (i - (to + n)) 0
+          ∙ getD-drop (to + n) r (i - (to + n)) 0
+          ∙ ap (λ (x : ℕ). getD r x 0) (sym e)
 
 -- ---- a copy of what a function makes of each word
 

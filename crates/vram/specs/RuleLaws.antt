@@ -3,23 +3,20 @@ use mathlib.Core.Path.{_≡_, refl, sym, ap, _∙_}
 use mathlib.Core.Bool.{Bool, true, false, cond}
 use mathlib.Core.List.{List}
 use mathlib.Core.Logic.{⊎-elim}
-use Prim.Native.Nat.{ℕ, zero, suc, _+_, _-_, _*_, _/_, _%_, _≤_, _<_}
+use Prim.Native.Nat.{ℕ, zero, suc, _-_, _%_, _<_}
 use native.Mathlib.Omega.{arith}
 use native.Mathlib.Nat.{mod-eq-of-lt}
-use lib.Dec.{eqb, ltb}
+use lib.Dec.{eqb}
 use lib.ListN.{length}
-use borrow.Author.Tests.{eqb-false, ne-eqb, ltb-true, ltb-false}
+use borrow.Author.Tests.{eqb-false}
 use Rattle.vram.specs.declared.Vram.{Vram}
 use Rattle.vram.specs.declared.Waiting.{Waiting}
 use Rattle.vram.specs.declared.Waiting.the-variants.{None, Tap}
 use Rattle.vram.specs.declared.Cycle.{Cycle}
-use Rattle.vram.specs.declared.Cycle.the-variants.{WordWrite, BlockWrite, LoadColour, LoadMask, ResetRefresh, FullTransfer, SplitTransfer}
-use Rattle.vram.specs.State.{withColour, withMask, other, waitingOk, ruled}
+use Rattle.vram.specs.State.{withColour, withMask, waitingOk, ruled}
 use Rattle.vram.specs.Memory.{puts}
 use Rattle.vram.specs.MemoryLaws.{copied-length}
 use Rattle.vram.specs.Board.{Board, effect}
-use Rattle.vram.specs.Refusal.{refusal}
-use Rattle.refusals.specs.RefusalLaws.{full-zero, split-zero, transfer-within}
 use Rattle.vram.specs.RefusalLaws.{given-zero, given-rule}
 use Rattle.vram.specs.Step.{givenOf, rowsOf, number, step, run}
 use Rattle.vram.specs.StepLaws.{number-zero, step-holds, run-holds}

@@ -5,10 +5,9 @@ use mathlib.Core.List.{List}
 use mathlib.Core.Logic.{_≢_, _⊎_, inl, inr}
 use Prim.Native.Nat.{ℕ, _+_, _-_, _*_, _/_, _≤_, _<_}
 use native.Mathlib.Omega.{arith}
-use native.Mathlib.Nat.{add-zero}
 use lib.Dec.{ltb}
 use lib.ListN.{length, getD, take, drop}
-use borrow.Author.Tests.{eqb-false, ltb-true, ltb-false}
+use borrow.Author.Tests.{ltb-true, ltb-false}
 use Rattle.words.specs.Bit.{bit}
 use Rattle.words.specs.Word.{merged, lets}
 use Rattle.words.specs.WordLaws.{merged-bit}
@@ -17,10 +16,7 @@ use Rattle.vram.specs.declared.Cycle.{Cycle}
 use Rattle.vram.specs.declared.Cycle.the-variants.{WordWrite, BlockWrite, LoadColour, LoadMask, ResetRefresh, FullTransfer, SplitTransfer}
 use Rattle.vram.specs.Memory.{puts}
 use Rattle.vram.specs.MemoryLaws.{puts-length, among, puts-at, puts-part}
-use Rattle.vram.specs.Board.{Board, allowed, effect}
-use Rattle.vram.specs.Refusal.{refusal}
-use Rattle.refusals.specs.RefusalLaws.{write-zero}
-use Rattle.vram.specs.Kinds.{names}
+use Rattle.vram.specs.Board.{allowed}
 
 -- `count` words of a row from a column on take pen's bits, word j through `through j`
 pub record Writes : Type 0 where

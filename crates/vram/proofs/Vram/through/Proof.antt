@@ -1,0 +1,26 @@
+-- `vram::Vram::through` meets its contract. Assumes nothing.
+use mathlib.Core.Path.{ap}
+use Prim.Native.Nat.{ℕ}
+use native.Mathlib.Nat.{le-of-lt, mod-lt}
+use Rattle.vram.specs.Serial.{throughIn}
+use borrow.Author.Needs.{needs}
+use Rattle.vram.proofs.Vram.through.Statement.{statement}
+use Rattle.vram.proofs.Vram.through.Tie as tie
+
+length-requires : tie.Need-length-requires
+length-requires c κs = search needs
+
+rem-result : tie.Need-rem-result
+rem-result c = search needs
+
+sub-result : tie.Need-sub-result
+sub-result c = le-of-lt (mod-lt (c .before .before .args .self .pointer) (c .before .length .ensures .1))
+
+cast-result : tie.Need-cast-result
+cast-result c = search needs
+
+returns : tie.Need-returns
+returns c = ap (λ (n : ℕ). throughIn n (c .before .before .args .self .pointer)) (c .before .length .ensures .0)
+
+pub through-spec : {M : Type 1} → statement M
+through-spec = tie.close (tie.spec length-requires rem-result sub-result cast-result returns)
