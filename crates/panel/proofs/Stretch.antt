@@ -7,8 +7,8 @@ use lib.ListN.{length, take, drop, length-take, length-drop, drop-of-length-le}
 use lib.Seq.{take-all}
 use borrow.Rule.Slice.PartMut.{putMid}
 use Rattle.vram.specs.declared.Vram.{Vram}
-use Rattle.vram.specs.Serial.{half, through, clocks, words}
-use Rattle.vram.specs.SerialLaws.{half-partition, words-within}
+use Rattle.vram.specs.Serial.{through, clocks, words}
+use Rattle.vram.specs.SerialLaws.{words-within}
 use Rattle.panel.specs.Panel.{Panel, bytesOf, shown}
 use Rattle.panel.specs.PanelLaws.{bytes-length, shown-add, shown-length, over-more}
 use Rattle.numbers.specs.BufferLaws.{over-length}
@@ -23,13 +23,13 @@ tail-back l part at h =
     let e : drop (length l - at) (drop at l) ≡ [] = drop-of-length-le (drop at l) {i = length l - at} (rw length-drop (omega arith)) in
     ap (λ (x : List ℕ). take at l ++ (part ++ x)) e ∙ ap (λ (x : List ℕ). take at l ++ x) (append-nil part)
 
-module _ (p : Panel) (r out part : List ℕ) (s : Vram) (at count : ℕ) (q : s .pointer < 256) (h : count ≤ through half (s .pointer)) (l : s .pointer + count ≤ length r) where
+module _ (p : Panel) (r out part : List ℕ) (s : Vram) (at count : ℕ) (q : s .pointer < 256) (h : count ≤ through s) (l : s .pointer + count ≤ length r) where
   pub one-stretch : (k : ℕ) → k ≡ count → at ≤ length out
       → part ≡ over (bytesOf p (take (s .pointer + count - s .pointer) (drop (s .pointer) r))) (take (length out - at) (drop at out))
       → putMid at (length out - at) out part ≡ take at out ++ over (bytesOf p (words k s r)) (drop at out)
   one-stretch k f a e =
       let n : s .pointer + count - s .pointer ≡ count = omega arith in
-      let w : words count s r ≡ take count (drop (s .pointer) r) = words-within half half-partition count s r q (omega arith) l in
+      let w : words count s r ≡ take count (drop (s .pointer) r) = words-within s q count r h l in
       tail-back out part at a
       ∙ ap (λ (x : List ℕ). take at out ++ x)
       (e

@@ -10,7 +10,7 @@ use borrow.Author.Tests.{eqb-true, eq-eqb, leb-true, le-leb}
 use Rattle.numbers.specs.Refuse.{refuse}
 use Rattle.numbers.specs.RefuseLaws.{refuse-zero, firstOf-zero, leaves-before}
 use Rattle.vram.specs.declared.Vram.{Vram}
-use Rattle.vram.specs.declared.Answered.{Answered}
+use Rattle.vram.specs.declared.Moved.{Moved}
 use Rattle.vram.specs.State.{ruled}
 use Rattle.numbers.specs.Between.{both}
 use Rattle.vram.specs.Serial.{clocks}
@@ -61,13 +61,13 @@ module _ (s : Vram) (r : List ℕ) (p : Palette) (t : List ℕ) (k blank : ℕ) 
   run-refuses h =
       rw (← e, leaves-before n s (clocks k s) h, leaves-before n out (over (painted (panelOf (p .mask) t) blank k s r) out) h)
 
-  pub run-acts : n ≡ 0 → (a : Answered) (out′ : List ℕ) → a ≡ clocksCall s k → out′ ≡ over (painted (panelOf (p .mask) t) blank k s r) out
-      → outcome a out′ ≡ runCall s r p t k blank out
+  pub run-acts : n ≡ 0 → (a : Moved) (out′ : List ℕ) → a ≡ clocksCall s k → out′ ≡ over (painted (panelOf (p .mask) t) blank k s r) out
+      → outcome (answered (a .number) (a .state)) out′ ≡ runCall s r p t k blank out
   unfolding runCall
   run-acts z a out′ f g =
       let m = run-zero s p (length r) (length t) k (length out) (sym e ∙ z) .moves in
-      let i : a .number ≡ 0 = ap (λ (x : Answered). x .number) f ∙ clocks-number s k ∙ m in
-      let j : a .state ≡ clocks k s = ap (λ (x : Answered). x .state) f ∙ clocks-moves s k m in
+      let i : a .number ≡ 0 = ap (λ (x : Moved). x .number) f ∙ clocks-number s k ∙ m in
+      let j : a .state ≡ clocks k s = ap (λ (x : Moved). x .state) f ∙ clocks-moves s k m in
       rw (← e, z) (ap₂ outcome (ap₂ answered i j) g)
 
 -- what an accepted run answers and leaves

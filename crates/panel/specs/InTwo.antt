@@ -5,8 +5,8 @@ use Prim.Native.Nat.{ℕ, _+_, _*_}
 use native.Mathlib.Omega.{arith}
 use lib.ListN.{length, take, drop, length-drop}
 use Rattle.vram.specs.declared.Vram.{Vram}
-use Rattle.vram.specs.Serial.{half, clocks}
-use Rattle.vram.specs.SerialLaws.{half-partition, clocks-add}
+use Rattle.vram.specs.Serial.{clocks}
+use Rattle.vram.specs.SerialLaws.{clocks-add}
 use Rattle.vram.specs.RuleLaws.{Places, clocks-ruled}
 use Rattle.vram.specs.CallLaws.{clocks-fewer, clocks-rest}
 use Rattle.vram.specs.Calls.{answered}
@@ -41,7 +41,7 @@ module _ (s : Vram) (places : Places s) (r : List ℕ) (p : Palette) (t : List �
       let q = panelOf (p .mask) t in
       let b : length (over (painted q blank j s r) out) ≡ length out = over-length (painted q blank j s r) out (omega (arith, painted-length q blank j s r, a .room)) in
       rw made
-      (run-accepted (clocks j s) p (length r) (length t) k _ (clocks-ruled half half-partition j s places (a .rule)) (a .palette) (a .register) (a .entries)
+      (run-accepted (clocks j s) p (length r) (length t) k _ (clocks-ruled j s places (a .rule)) (a .palette) (a .register) (a .entries)
       (clocks-rest s j k places (a .moves)) (simp length-drop (omega (arith, b, a .room))))
 
   pub run-in-two : runCall s r p t (j + k) blank out ≡ outcome (second .answer) (take (3 * j) (first .buffer) ++ second .buffer)
@@ -51,7 +51,7 @@ module _ (s : Vram) (places : Places s) (r : List ℕ) (p : Palette) (t : List �
       let b : first .buffer ≡ over (painted q blank j s r) out = ap (λ (o : Outcome). o .buffer) made in
       let g = run-made (first .answer .state) r p t k blank (drop (3 * j) (first .buffer)) second-accepted in
       run-made s r p t (j + k) blank out z
-      ∙ ap₂ outcome (ap (answered 0) (clocks-add half j k s))
+      ∙ ap₂ outcome (ap (answered 0) (clocks-add j k s))
       (ap (λ (l : List ℕ). over l out) (painted-add q blank j k s r)
       ∙ over-more (painted q blank j s r) (painted q blank k (clocks j s) r) out (3 * j) (painted-length q blank j s r)
       ∙ ap (λ (l : List ℕ). take (3 * j) l ++ over (painted q blank k (clocks j s) r) (drop (3 * j) l)) (sym b))

@@ -10,7 +10,7 @@ use lib.Dec.{eqb}
 use lib.ListN.{length, getD, set, take, drop, length-append, length-take, length-replicate}
 use lib.Seq.{take-suc, drop-cons, drop-drop, set-at, take-at, drop-at}
 use Rattle.vram.specs.declared.Vram.{Vram}
-use Rattle.vram.specs.Serial.{half, clocks, words}
+use Rattle.vram.specs.Serial.{clocks, words}
 use Rattle.vram.specs.SerialLaws.{words-none, words-add, words-length}
 use Rattle.palette.specs.Table.{Colour, store}
 use Rattle.panel.specs.Panel.{Panel, colourOf, bytesOf, shown, zeros, painted}
@@ -37,18 +37,18 @@ unfolding bytesOf
 bytes-one p w = refl
 
 pub shown-length : (p : Panel) (k : ℕ) (s : Vram) (r : List ℕ) → length (shown p k s r) ≡ 3 * k
-shown-length p k s r = bytes-length p (words k s r) ∙ ap (λ (n : ℕ). 3 * n) (words-length half k s r)
+shown-length p k s r = bytes-length p (words k s r) ∙ ap (λ (n : ℕ). 3 * n) (words-length k s r)
 
 -- a run of j + k clocks shows what j show and then what k show
 pub shown-add : (p : Panel) (j k : ℕ) (s : Vram) (r : List ℕ) → shown p (j + k) s r ≡ shown p j s r ++ shown p k (clocks j s) r
-shown-add p j k s r = ap (bytesOf p) (words-add half j k s r) ∙ bytes-append p (words j s r) (words k (clocks j s) r)
+shown-add p j k s r = ap (bytesOf p) (words-add j k s r) ∙ bytes-append p (words j s r) (words k (clocks j s) r)
 
 -- ---- bytes at the start of a buffer
 
 -- no clocks show nothing
 pub over-none : (p : Panel) (s : Vram) (r out : List ℕ) → out ≡ over (shown p 0 s r) out
 unfolding bytesOf
-over-none p s r out = rw (words-none half s r)
+over-none p s r out = rw (words-none s r)
 
 -- more bytes, after the first
 pub over-more : (bs cs out : List ℕ) (n : ℕ) → length bs ≡ n → over (bs ++ cs) out ≡ take n (over bs out) ++ over cs (drop n (over bs out))

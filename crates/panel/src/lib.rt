@@ -1,7 +1,7 @@
 // A run to the panel: serial words through the palette to bytes. Document 01, "A run to the panel"; source document 001 (Am81C176),
 // its pixel mask and colour table.
 // A call stands for a whole run. Not modelled: the pixel clock, sync, the converters and their levels.
-// A run goes in stretches to the end of a half, so that the inner loop has no test; the tap is used up and the pointer advanced in
+// A run goes in stretches to the end of a partition, so that the inner loop has no test; the tap is used up and the pointer advanced in
 // `vram` alone.
 ghost use mathlib.Core.Path.{_≡_};
 ghost use Rattle.panel.specs.Calls.{outcome, runRefusal, runCall};
@@ -58,5 +58,10 @@ pub fn run(
         return Answered { state, number: n };
     }
     paint(state, serial, palette.mask, table, clocks, blank, out);
-    state.clocks(clocks)
+    let moved = state.clocks(clocks);
+    let after = moved.state;
+    Answered {
+        state: after,
+        number: moved.number,
+    }
 }

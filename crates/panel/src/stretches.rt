@@ -1,4 +1,4 @@
-// A run in stretches, each to the end of the pointer's half.
+// A run in stretches, each to the end of the pointer's partition.
 ghost use mathlib.Core.Path.{_≡_};
 ghost use mathlib.Core.List.{_++_};
 ghost use Prim.Native.Nat.{_+_, _-_, _*_, _≤_, _<_, min};
@@ -16,7 +16,7 @@ fn least(a: u32, b: u32) -> u32
     if a < b { a } else { b }
 }
 
-// One stretch after so many clocks: to the end of the half, or of the run. How many clocks are done then.
+// One stretch after so many clocks: to the end of the partition, or of the run. How many clocks are done then.
 fn stretch(
     state: Vram,
     serial: &[u16],
@@ -29,9 +29,9 @@ fn stretch(
     requires { ⌜ (clocksRefusal state clocks ≡ 0) × (length (now serial) ≡ 256) × (length (now table) ≡ 768) × (3 * clocks ≤ length (now out)) × (done < clocks) ⌝ }
     ensures { λ r. ⌜ (done < r) × (r ≤ clocks) × (now (out .exit) ≡ take (3 * done) (now (out .entry)) ++ over (bytesOf (panelOf mask (now (table .entry))) (words (r - done) (movedBy done state) (now (serial .entry)))) (drop (3 * done) (now (out .entry)))) ⌝ }
 {
-    let here = state.clocks(done).state;
-    let count = least(here.through(), clocks - done);
-    let from = here.pointer as usize;
+    let here = state.clocks(done);
+    let count = least(here.through, clocks - done);
+    let from = here.state.pointer as usize;
     let to = from + count as usize;
     let at = 3 * (done as usize);
     show_words(&serial[from..to], mask, table, &mut out[at..]);

@@ -1,9 +1,7 @@
 -- `panel::refusal` meets its contract. Assumes nothing.
 use mathlib.Core.Path.{ap, _∙_}
 use Rattle.numbers.specs.RefuseLaws.{firstOf-is}
-use Rattle.vram.specs.declared.Answered.{Answered}
-use mathlib.Core.Path.{ap}
-use mathlib.Core.Path.{_∙_}
+use Rattle.vram.specs.declared.Moved.{Moved}
 use Rattle.panel.specs.Calls.{runRefusal}
 use Rattle.vram.specs.CallLaws.{clocks-number}
 use borrow.Author.Needs.{needs}
@@ -40,7 +38,7 @@ returns c =
     let d = c .before .before .before in
     let e = d .before .before .before in
     let a = e .before .args in
-    let n = ap (λ (x : Answered). x .number) (e .clocks .ensures) ∙ clocks-number (a .state) (a .clocks) in
+    let n = ap (λ (x : Moved). x .number) (e .clocks .ensures) ∙ clocks-number (a .state) (a .clocks) in
     rw (c .before .ruled2 .ensures, c .before .before .ruled .ensures, d .refuse3 .ensures, d .before .refuse2 .ensures, firstOf-is, n, d .before .before .refuse .ensures) at (c .refuse4 .ensures)
 
 pub refusal-spec : {M : Type 1} → statement M

@@ -27,9 +27,10 @@ same-length c = search needs
 
 returns-2 : tie.Need-returns-2
 returns-2 c =
-    let w = c .before .before .before in
+    let d = c .before in
+    let w = d .before .before .before in
     let e = w .before .before in
-    run-acts _ _ _ _ _ _ _ _ (e .before .refusal .ensures) (e .if1 .left) _ _ (c .clocks .ensures) (w .paint .ensures)
+    run-acts _ _ _ _ _ _ _ _ (e .before .refusal .ensures) (e .if1 .left) (d .clocks .result) _ (d .clocks .ensures) (w .paint .ensures)
 
 pub run-spec : {M : Type 1} → statement M
 run-spec =

@@ -1,13 +1,15 @@
--- `panel::stretches::stretch` meets its contract: the clocks stay in one half. Assumes nothing.
-use mathlib.Core.Path.{_≡_, ap, _∙_}
+-- `panel::stretches::stretch` meets its contract: the clocks stay in one partition. Assumes nothing.
+use mathlib.Core.Path.{_≡_, sym, ap, _∙_}
 use mathlib.Core.List.{_++_}
-use Prim.Native.Nat.{_+_, _-_, _*_}
+use Prim.Native.Nat.{ℕ, _+_, _-_, _*_, _<_}
 use native.Mathlib.Omega.{arith}
 use lib.ListN.{take, drop}
 use Rattle.vram.specs.declared.Vram.{Vram}
-use Rattle.vram.specs.declared.Answered.{Answered}
-use Rattle.vram.specs.Serial.{clocks, words}
-use Rattle.vram.specs.CallLaws.{clocks-moves, clocks-fewer}
+use Rattle.vram.specs.declared.Moved.{Moved}
+use Rattle.vram.specs.Serial.{through, clocks as moved, words}
+use Rattle.vram.specs.Calls.{clocksRefusal, clocksCall}
+use Rattle.vram.specs.SerialLaws.{through-within}
+use Rattle.vram.specs.CallLaws.{clocks-moves, clocks-leads, clocks-fewer}
 use Rattle.panel.specs.Panel.{panelOf, bytesOf}
 use Rattle.numbers.specs.Buffer.{over}
 use Rattle.panel.proofs.Stretch.{one-stretch}
@@ -15,11 +17,16 @@ use borrow.Author.Needs.{needs}
 use Rattle.panel.proofs.stretches.stretch.Statement.{statement}
 use Rattle.panel.proofs.stretches.stretch.Tie as tie
 
+-- the state there, and how many clocks lead through the end of its partition, which lies within the register
+there : (s : Vram) (done clocks : ℕ) (r : Moved) → r ≡ clocksCall s done → done < clocks → clocksRefusal s clocks ≡ 0
+    → (r .state ≡ moved done s) × (r .through ≡ through (r .state))
+there s done clocks r f h z =
+    let k = clocks-fewer s done clocks (omega arith) z in
+    let e : r .state ≡ moved done s = ap (λ (x : Moved). x .state) f ∙ clocks-moves s done k in
+    (e, ap (λ (x : Moved). x .through) f ∙ clocks-leads s done k ∙ ap through (sym e))
+
 clocks-requires : tie.Need-clocks-requires
 clocks-requires c κs = search needs
-
-through-requires : tie.Need-through-requires
-through-requires c κs = search needs
 
 sub-least : tie.Need-sub-least
 sub-least c = search needs
@@ -49,7 +56,14 @@ part-show-words-start : tie.Need-part-show-words-start
 part-show-words-start c = search needs
 
 part-show-words-end : tie.Need-part-show-words-end
-part-show-words-end c = search needs
+part-show-words-end c =
+    let m = c .before in
+    let d = m .before in
+    let s = d .before .before .before .before in
+    let a = s .args in
+    let t = there (a .state) (a .done) (a .clocks) (d .clocks .result) (d .clocks .ensures) (s .pre .4) (s .pre .0) in
+    let q = through-within (d .clocks .result .state) (omega (arith, c .struct-known .given)) in
+    omega (arith, m .least .ensures, t .1, q .1, s .pre .1)
 
 sub-show-words-2 : tie.Need-sub-show-words-2
 sub-show-words-2 c = search needs
@@ -74,19 +88,19 @@ returns c =
     let w = c .before .before in
     let k = w .before .before .before in
     let m = k .before in
-    let t = m .before in
-    let d = t .before .before in
+    let d = m .before in
     let s = d .before .before .before .before in
     let a = s .args in
     let here = d .clocks .result .state in
-    let e : here ≡ clocks (a .done) (a .state) =
-    ap (λ (x : Answered). x .state) (d .clocks .ensures) ∙ clocks-moves (a .state) (a .done) (clocks-fewer (a .state) (a .done) (a .clocks) (omega arith) (s .pre .0)) in (
-      omega (arith, m .least .ensures, t .through .ensures),
+    let t = there (a .state) (a .done) (a .clocks) (d .clocks .result) (d .clocks .ensures) (s .pre .4) (s .pre .0) in
+    let p : here .pointer < 256 = omega (arith, k .struct-known .given) in
+    let q = through-within here p in (
+      omega (arith, m .least .ensures, t .1, q .0),
       omega (arith, m .least .ensures),
-      one-stretch (panelOf (a .mask) (a .table .now)) (a .serial .now) (a .out .now) _ here (3 * a .done) (m .least .result) (omega (arith, k .struct-known .given))
-          (omega (arith, m .least .ensures, t .through .ensures)) (omega (arith, m .least .ensures, t .through .ensures, k .struct-known .given, s .pre .1)) (a .done + m .least .result - a .done) (omega arith)
+      one-stretch (panelOf (a .mask) (a .table .now)) (a .serial .now) (a .out .now) _ here (3 * a .done) (m .least .result) p
+          (omega (arith, m .least .ensures, t .1)) (omega (arith, m .least .ensures, t .1, q .1, s .pre .1)) (a .done + m .least .result - a .done) (omega arith)
           (omega (arith, s .pre .3)) (w .show-words .ensures)
-          ∙ ap (λ (x : Vram). take (3 * a .done) (a .out .now) ++ over (bytesOf (panelOf (a .mask) (a .table .now)) (words (a .done + m .least .result - a .done) x (a .serial .now))) (drop (3 * a .done) (a .out .now))) e,
+          ∙ ap (λ (x : Vram). take (3 * a .done) (a .out .now) ++ over (bytesOf (panelOf (a .mask) (a .table .now)) (words (a .done + m .least .result - a .done) x (a .serial .now))) (drop (3 * a .done) (a .out .now))) (t .0),
     )
 
 pub stretch-spec : {M : Type 1} → statement M
@@ -94,7 +108,6 @@ stretch-spec =
     tie.close
     (tie.spec
     clocks-requires
-    through-requires
     sub-least
     least-requires
     cast-from
