@@ -8,12 +8,12 @@ use Rattle.vram.specs.Board.{Board}
 use Rattle.vram.specs.Step.{givenOf, rowsOf, run}
 use Rattle.list.specs.declared.Bad.{Bad}
 use Rattle.list.specs.Fields.{fields}
-use Rattle.list.specs.Meaning.{bad, verdict, readable, cyclesOf, verdictOf, gives, runCall}
+use Rattle.list.specs.Meaning.{bad, verdict, readable, cyclesOf, verdictOf, gives, runCallBy, runCall}
 use Rattle.list.specs.CallLaws.{accepted-zeros, accepted-readable, verdict-given, verdict-fields, call-runs, call-refuses}
 
 module _ (list : List ℕ) (b : Board) where
   pub given-out : (n : ℕ) → n ≡ givenOf b → n ≢ 0 → gives (bad n 0) b ≡ runCall list b
-  unfolding runCall
+  unfolding runCallBy
   given-out n e h =
       let k : givenOf b ≢ 0 = λ z. h (e ∙ z) in
       let v = verdict-given list b k in
@@ -24,14 +24,14 @@ module _ (list : List ℕ) (b : Board) where
     found = q ∙ sym (verdict-fields list b (sym e ∙ z))
 
     pub refused-out : v .number ≢ 0 → gives v b ≡ runCall list b
-    unfolding runCall
+    unfolding runCallBy
     refused-out h = ap₂ gives found (sym (call-refuses list b (λ y. h (ap (λ (w : Bad). w .number) found ∙ y))))
 
     pub accepted-list : v .number ≡ 0 → readable (fields list) ≡ true
     accepted-list h = accepted-readable (rowsOf b) (b .state .loaded) 0 (fields list) (sym (ap (λ (w : Bad). w .number) q) ∙ h)
 
     pub done-out : v .number ≡ 0 → (after : Board) → after ≡ run (cyclesOf list) b → gives (bad 0 0) after ≡ runCall list b
-    unfolding runCall
+    unfolding runCallBy
     done-out h after a =
         let y : verdict (rowsOf b) (b .state .loaded) 0 (fields list) .number ≡ 0 = sym (ap (λ (w : Bad). w .number) q) ∙ h in
         ap₂ gives (sym (accepted-zeros (rowsOf b) (b .state .loaded) 0 (fields list) y) ∙ sym q ∙ found)

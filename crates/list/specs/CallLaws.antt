@@ -8,11 +8,11 @@ use native.Mathlib.Omega.{arith}
 use lib.Dec.{eqb}
 use borrow.Author.Tests.{eq-eqb, ne-eqb, eqb-true, eqb-false}
 use Rattle.numbers.specs.RefuseLaws.{leaves-made, leaves-before}
-use Rattle.vram.specs.Board.{Board}
-use Rattle.vram.specs.Step.{givenOf, rowsOf, run}
+use Rattle.vram.specs.Board.{Board, effect}
+use Rattle.vram.specs.Step.{givenOf, rowsOf, Engine, stepBy, runBy, run}
 use Rattle.list.specs.declared.Bad.{Bad}
 use Rattle.list.specs.Fields.{Field, Reads, Unreadable, sizeOf, fields}
-use Rattle.list.specs.Meaning.{numberOf, madeBy, bad, verdict, readable, cyclesOf, verdictOf, runCall}
+use Rattle.list.specs.Meaning.{numberOf, madeBy, bad, verdict, readable, cyclesOf, verdictOf, runCallBy, runCall}
 use Rattle.list.specs.VerdictLaws.{verdict-nil, verdict-good, accepted-head, accepted-tail}
 
 -- ---- accepted fields
@@ -53,16 +53,31 @@ module _ (list : List ℕ) (b : Board) where
       go true q = eqb-true _ _ q
       go false q = sym (ap (λ (v : Bad). v .number) (verdict-given (eqb-false _ _ q))) ∙ h
 
-  pub call-given : runCall list b .given ≡ verdictOf list b
-  unfolding runCall
-  call-given = refl
+-- ---- the call, by any engine
+
+module _ (e : Engine) (list : List ℕ) (b : Board) where
+  pub call-given-by : runCallBy e list b .given ≡ verdictOf list b
+  unfolding runCallBy
+  call-given-by = refl
 
   -- an accepted list leaves what its cycles leave, run in order
-  pub call-runs : verdictOf list b .number ≡ 0 → runCall list b .after ≡ run (cyclesOf list) b
-  unfolding runCall
-  call-runs h = leaves-made (verdictOf list b .number) b (run (cyclesOf list) b) h
+  pub call-runs-by : verdictOf list b .number ≡ 0 → runCallBy e list b .after ≡ runBy (stepBy e) (cyclesOf list) b
+  unfolding runCallBy
+  call-runs-by h = leaves-made (verdictOf list b .number) b (runBy (stepBy e) (cyclesOf list) b) h
 
   -- a refused list changes nothing
+  pub call-refuses-by : verdictOf list b .number ≢ 0 → runCallBy e list b .after ≡ b
+  unfolding runCallBy
+  call-refuses-by h = leaves-before (verdictOf list b .number) b (runBy (stepBy e) (cyclesOf list) b) h
+
+-- ---- and by the engine of the rules
+
+module _ (list : List ℕ) (b : Board) where
+  pub call-given : runCall list b .given ≡ verdictOf list b
+  call-given = call-given-by effect list b
+
+  pub call-runs : verdictOf list b .number ≡ 0 → runCall list b .after ≡ run (cyclesOf list) b
+  call-runs = call-runs-by effect list b
+
   pub call-refuses : verdictOf list b .number ≢ 0 → runCall list b .after ≡ b
-  unfolding runCall
-  call-refuses h = leaves-before (verdictOf list b .number) b (run (cyclesOf list) b) h
+  call-refuses = call-refuses-by effect list b

@@ -32,6 +32,11 @@ module _ (s : List ℕ) (h : whole s ≡ true) where
   unfolding fieldOf
   field-whole = rw h
 
+-- a field that is not cut short is whole where its header is good
+pub whole-is : (s : List ℕ) → 3 + lenOf (tag s) ≤ length s → whole s ≡ headed s
+unfolding whole
+whole-is s h = rw (le-leb (3 + lenOf (tag s)) (length s) h)
+
 pub field-not : (s : List ℕ) → whole s ≡ false → fieldOf s ≡ Unreadable
 unfolding fieldOf
 field-not s h = rw h

@@ -13,8 +13,7 @@ use Rattle.vram.specs.Board.{Board}
 use Rattle.vram.specs.Step.{givenOf, rowsOf, number, step, run}
 use Rattle.vram.specs.StepLaws.{run-append}
 use Rattle.vram.specs.KeptLaws.{step-loaded}
-use Rattle.vram.specs.RuleLaws.{step-given}
-use Rattle.vram.specs.CaseLaws.{run-none, run-next, step-rows, run-rows, number-is, run-given}
+use Rattle.vram.specs.CaseLaws.{run-none, run-next, run-rows, run-given}
 use Rattle.list.specs.declared.Bad.{Bad}
 use Rattle.list.specs.Fields.{Field, Reads, Unreadable, sizeOf, fields}
 use Rattle.list.specs.FieldLaws.{fields-append}
@@ -22,6 +21,7 @@ use Rattle.list.specs.Meaning.{numberOf, madeBy, bad, verdict, cycles, r
 use Rattle.list.specs.VerdictLaws.{verdict-good, accepted-head, accepted-tail}
 use Rattle.list.specs.Joined.{madeByAll, sizes, further}
 use Rattle.list.specs.CountLaws.{sizes-all}
+use Rattle.list.specs.PerformLaws.{Accepted, first-acts, others-accepted, unreadable-refused, list-accepted}
 use Rattle.list.specs.CallLaws.{accepted-readable, accepted-given, verdict-fields, call-runs}
 
 -- ---- fields one after the other
@@ -65,33 +65,25 @@ further-number n v = go (eqb (v .number) 0) refl
 
 -- ---- what the check carried is what the run leaves: `loaded` at the end of accepted fields
 
-pub run-loaded : (at : ℕ) (fs : List Field) (b : Board) → givenOf b ≡ 0 → verdict (rowsOf b) (b .state .loaded) at fs .number ≡ 0
-    → run (cycles fs) b .state .loaded ≡ madeByAll fs (b .state .loaded)
-unfolding cycles madeByAll numberOf madeBy
-run-loaded at [] b g h = ap (λ (x : Board). x .state .loaded) (run-none step b)
-run-loaded at (Reads c n ∷ fs) b g h =
-    let z : number c b ≡ 0 = number-is c b g ∙ accepted-head (rowsOf b) (b .state .loaded) at (Reads c n) fs h in
-    let l = step-loaded b c z in
-    let t = accepted-tail (rowsOf b) (b .state .loaded) at (Reads c n) fs h in
+pub run-loaded : (at : ℕ) (fs : List Field) (b : Board) → Accepted at fs b → run (cycles fs) b .state .loaded ≡ madeByAll fs (b .state .loaded)
+unfolding cycles madeByAll madeBy
+run-loaded at [] b a = ap (λ (x : Board). x .state .loaded) (run-none step b)
+run-loaded at (Reads c n ∷ fs) b a =
     ap (λ (x : Board). x .state .loaded) (run-next step c (cycles fs) b)
-    ∙ run-loaded (at + sizeOf (Reads c n)) fs (step c b) (step-given c b ∙ g)
-    (ap₂ (λ (k : ℕ) (made : Bool). verdict k made (at + sizeOf (Reads c n)) fs .number) (step-rows c b) l ∙ t)
-    ∙ ap (madeByAll fs) l
-run-loaded at (Unreadable ∷ fs) b g h = absurd (omega (arith, accepted-head (rowsOf b) (b .state .loaded) at Unreadable fs h))
+    ∙ run-loaded (at + sizeOf (Reads c n)) fs (step c b) (others-accepted at c n fs b a)
+    ∙ ap (madeByAll fs) (step-loaded b c (first-acts at c n fs b a))
+run-loaded at (Unreadable ∷ fs) b a = absurd (unreadable-refused at fs b a)
 
 -- ---- an accepted list
 
 module _ (a : List ℕ) (x : Board) (h : verdictOf a x .number ≡ 0) where
-  accepted : verdict (rowsOf x) (x .state .loaded) 0 (fields a) .number ≡ 0
-  accepted = sym (ap (λ (v : Bad). v .number) (verdict-fields a x (accepted-given a x h))) ∙ h
-
   -- each of its fields can be read
   pub call-readable : readable (fields a) ≡ true
-  call-readable = accepted-readable (rowsOf x) (x .state .loaded) 0 (fields a) accepted
+  call-readable = accepted-readable (rowsOf x) (x .state .loaded) 0 (fields a) (list-accepted a x h .none)
 
   -- `loaded` at the end of an accepted list
   pub call-loaded : runCall a x .after .state .loaded ≡ madeByAll (fields a) (x .state .loaded)
-  call-loaded = ap (λ (y : Board). y .state .loaded) (call-runs a x h) ∙ run-loaded 0 (fields a) x (accepted-given a x h) accepted
+  call-loaded = ap (λ (y : Board). y .state .loaded) (call-runs a x h) ∙ run-loaded 0 (fields a) x (list-accepted a x h)
 
   -- rows fitted stay
   call-rows : rowsOf (runCall a x .after) ≡ rowsOf x
@@ -110,7 +102,7 @@ module _ (a b : List ℕ) (x : Board) (h : verdictOf a x .number ≡ 0) where
       let e : 0 + sizes (fields a) ≡ length a + 0 = omega (arith, sizes-all a (call-readable a x h)) in
       verdict-fields (a ++ b) x (accepted-given a x h)
       ∙ ap (verdict (rowsOf x) (x .state .loaded) 0) (fields-append a b (call-readable a x h))
-      ∙ verdict-append (rowsOf x) (x .state .loaded) 0 (fields a) (fields b) (accepted a x h)
+      ∙ verdict-append (rowsOf x) (x .state .loaded) 0 (fields a) (fields b) (list-accepted a x h .none)
       ∙ ap (λ (n : ℕ). verdict (rowsOf x) m n (fields b)) e
       ∙ verdict-further (length a) (rowsOf x) m 0 (fields b)
       ∙ ap (further (length a))

@@ -5,14 +5,17 @@ pub mod Meaning
 pub mod Encode
 pub mod Joined
 pub mod Waits
+pub mod Heads
 pub mod TagLaws
 pub mod FieldLaws
 pub mod VerdictLaws
 pub mod CallLaws
 pub mod CountLaws
+pub mod PerformLaws
 pub mod JoinLaws
 pub mod EncodeLaws
 pub mod EncodedLaws
 pub mod WaitsLaws
+pub mod HeadLaws
 pub mod RangeLaws
 pub mod Once

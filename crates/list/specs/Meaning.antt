@@ -7,10 +7,10 @@ use lib.Dec.{eqb}
 use lib.ListN.{length}
 use Rattle.numbers.specs.Refuse.{leaves}
 use Rattle.vram.specs.declared.Cycle.{Cycle}
-use Rattle.vram.specs.Board.{Board, board}
+use Rattle.vram.specs.Board.{Board, board, effect}
 use Rattle.vram.specs.Refusal.{refusal}
 use Rattle.vram.specs.Kinds.{loads}
-use Rattle.vram.specs.Step.{givenOf, rowsOf, run}
+use Rattle.vram.specs.Step.{givenOf, rowsOf, Engine, stepBy, runBy}
 use Rattle.list.specs.declared.Bad.{Bad}
 use Rattle.list.specs.declared.Ran.{Ran}
 use Rattle.list.specs.Fields.{Field, Reads, Unreadable, sizeOf, fields}
@@ -78,6 +78,10 @@ gives v b = record { given = v; after = b }
 abbrev pub outcome : Ran → List ℕ → List ℕ → Outcome
 outcome r m q = gives (bad (r .number) (r .place)) (board (r .state) m q)
 
--- checked whole, then run in order; a refusal changes nothing
-unfoldable pub runCall : List ℕ → Board → Outcome
-runCall list b = gives (verdictOf list b) (leaves (verdictOf list b .number) b (run (cyclesOf list) b))
+-- checked whole, then run in order by an engine; a refusal changes nothing
+unfoldable pub runCallBy : Engine → List ℕ → Board → Outcome
+runCallBy e list b = gives (verdictOf list b) (leaves (verdictOf list b .number) b (runBy (stepBy e) (cyclesOf list) b))
+
+-- by the engine of the rules
+abbrev pub runCall : List ℕ → Board → Outcome
+runCall = runCallBy effect

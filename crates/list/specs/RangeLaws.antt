@@ -8,6 +8,7 @@ use native.Mathlib.Omega.{arith}
 use lib.Dec.{eqb}
 use lib.ListN.{length, drop, length-drop}
 use borrow.Author.Tests.{eqb-true, eqb-false}
+use Rattle.refusals.specs.Refusal.{highest}
 use Rattle.vram.specs.Board.{Board}
 use Rattle.vram.specs.Step.{givenOf, rowsOf}
 use Rattle.vram.specs.RefusalLaws.{given-most}
@@ -20,18 +21,18 @@ use Rattle.list.specs.VerdictLaws.{size-whole, number-range, verdict-nil
 
 -- ---- the number is one of the table's
 
-number-most : (rows : ℕ) (made : Bool) (f : Field) → numberOf rows made f ≤ 10
+number-most : (rows : ℕ) (made : Bool) (f : Field) → numberOf rows made f ≤ highest
 number-most rows made f = go (eqb (numberOf rows made f) 0) refl
   where
-    go : (t : Bool) → eqb (numberOf rows made f) 0 ≡ t → numberOf rows made f ≤ 10
+    go : (t : Bool) → eqb (numberOf rows made f) 0 ≡ t → numberOf rows made f ≤ highest
     go true e = let z : numberOf rows made f ≡ 0 = eqb-true _ _ e in omega arith
     go false e = number-range rows made f (eqb-false _ _ e) .1
 
-pub verdict-most : (rows : ℕ) (made : Bool) (at : ℕ) (fs : List Field) → verdict rows made at fs .number ≤ 10
+pub verdict-most : (rows : ℕ) (made : Bool) (at : ℕ) (fs : List Field) → verdict rows made at fs .number ≤ highest
 verdict-most rows made at [] = rw (verdict-nil rows made at) (omega arith)
 verdict-most rows made at (f ∷ fs) = go (eqb (numberOf rows made f) 0) refl (verdict-most rows (madeBy f made) (at + sizeOf f) fs)
   where
-    go : (t : Bool) → eqb (numberOf rows made f) 0 ≡ t → verdict rows (madeBy f made) (at + sizeOf f) fs .number ≤ 10 → verdict rows made at (f ∷ fs) .number ≤ 10
+    go : (t : Bool) → eqb (numberOf rows made f) 0 ≡ t → verdict rows (madeBy f made) (at + sizeOf f) fs .number ≤ highest → verdict rows made at (f ∷ fs) .number ≤ highest
     go true e later = rw (verdict-good rows made at f fs (eqb-true _ _ e)) later
     go false e later = rw (verdict-bad rows made at f fs (eqb-false _ _ e)) (number-most rows made f)
 
@@ -74,10 +75,10 @@ place-in (suc n) rows made at s h =
 
 -- ---- the call
 
-pub call-most : (list : List ℕ) (b : Board) → (verdictOf list b .number ≤ 10) × (verdictOf list b .place ≤ length list)
+pub call-most : (list : List ℕ) (b : Board) → (verdictOf list b .number ≤ highest) × (verdictOf list b .place ≤ length list)
 call-most list b = go (eqb (givenOf b) 0) refl
   where
-    go : (t : Bool) → eqb (givenOf b) 0 ≡ t → (verdictOf list b .number ≤ 10) × (verdictOf list b .place ≤ length list)
+    go : (t : Bool) → eqb (givenOf b) 0 ≡ t → (verdictOf list b .number ≤ highest) × (verdictOf list b .place ≤ length list)
     go true e =
         let p = place-in (length list) (rowsOf b) (b .state .loaded) 0 list (omega arith) in
         rw (verdict-fields list b (eqb-true _ _ e)) (verdict-most (rowsOf b) (b .state .loaded) 0 (fields list), omega arith)

@@ -8,6 +8,7 @@ use native.Mathlib.Omega.{arith}
 use lib.Dec.{eqb}
 use lib.ListN.{length, drop}
 use borrow.Author.Tests.{eq-eqb, ne-eqb, eqb-true}
+use Rattle.refusals.specs.Refusal.{highest}
 use Rattle.vram.specs.Refusal.{refusal}
 use Rattle.list.specs.declared.Bad.{Bad}
 use Rattle.vram.specs.CaseLaws.{refusal-range}
@@ -40,8 +41,8 @@ pub number-not : (s : List ℕ) → whole s ≡ false → (rows : ℕ) (made : B
 unfolding numberOf
 number-not s h rows made = rw (field-not s h)
 
--- what refuses a field is 4 to 10
-pub number-range : (rows : ℕ) (made : Bool) (f : Field) → numberOf rows made f ≢ 0 → (4 ≤ numberOf rows made f) × (numberOf rows made f ≤ 10)
+-- what refuses a field is 4 to the highest
+pub number-range : (rows : ℕ) (made : Bool) (f : Field) → numberOf rows made f ≢ 0 → (4 ≤ numberOf rows made f) × (numberOf rows made f ≤ highest)
 unfolding numberOf
 number-range rows made (Reads c n) h = let r = refusal-range rows made c h in (omega (arith, r .0), r .1)
 number-range rows made Unreadable h = (omega arith, omega arith)

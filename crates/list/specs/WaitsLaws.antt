@@ -43,6 +43,9 @@ settled-cases s h = go (leb 3 (length s)) refl (headed s) refl (ltb (length s) (
     go true p true q true u = let w : waits s ≡ true = rw (p, q, u) in absurd (true≢false (sym w ∙ h))
     go true p true q false u = (leb-true _ _ p, inl (rw (q, le-leb (3 + lenOf (tag s)) (length s) (ltb-false _ _ u))))
 
+pub settled-long : (s : List ℕ) → waits s ≡ false → 3 ≤ length s
+settled-long s h = settled-cases s h .0
+
 not-whole : (s : List ℕ) → headed s ≡ false → whole s ≡ false
 not-whole s h = go (whole s) refl
   where

@@ -1,13 +1,12 @@
-// The check of a list: its bytes are read and `refusals` is asked, field by field.
+// The number of a field: its bytes are read and `refusals` is asked.
 ghost use mathlib.Core.Path.{_≡_};
 ghost use Prim.Native.Nat.{_+_, _<_};
 ghost use lib.ListN.{length};
 ghost use Rattle.refusals.specs.Refusal.{writeRefusal, loadRefusal, fullRefusal, splitRefusal};
 ghost use Rattle.vram.specs.Refusal.{refusal};
 ghost use Rattle.list.specs.Tags.{byte, word, lenOf, cycleOf};
-ghost use Rattle.list.specs.Fields.{fieldOf, fields};
-ghost use Rattle.list.specs.Meaning.{numberOf, verdict};
-use crate::Bad;
+ghost use Rattle.list.specs.Fields.{fieldOf};
+ghost use Rattle.list.specs.Meaning.{numberOf};
 use crate::fields::body_length;
 use crate::fields::whole;
 use crate::fields::word_at;
@@ -66,7 +65,7 @@ fn body_number(tag: u8, body: &[u8], rows: usize, loaded: bool) -> u32
 }
 
 // The number of the field at the head of some bytes.
-fn field_number(field: &[u8], rows: usize, loaded: bool) -> u32
+pub(crate) fn field_number(field: &[u8], rows: usize, loaded: bool) -> u32
     requires { ⌜ 0 < length (now field) ⌝ }
     ensures { λ r. ⌜ r ≡ numberOf rows loaded (fieldOf (now (field .entry))) ⌝ }
 {
@@ -77,32 +76,4 @@ fn field_number(field: &[u8], rows: usize, loaded: bool) -> u32
     } else {
         numbers::FIELD_UNREADABLE
     }
-}
-
-// The first refused field's number and offset. A full transfer counts for the fields after it.
-pub(crate) fn check(list: &[u8], rows: usize, loaded: bool) -> Bad
-    ensures { λ r. ⌜ r ≡ verdict rows loaded 0 (fields (now (list .entry))) ⌝ }
-{
-    let mut rest = list;
-    let mut made = loaded;
-    let bad = loop {
-        if rest.len() == 0 {
-            break Bad {
-                number: numbers::DONE,
-                place: 0,
-            };
-        }
-        let n = field_number(rest, rows, made);
-        if n != numbers::DONE {
-            break Bad {
-                number: n,
-                place: (list.len() - rest.len()) as u64,
-            };
-        }
-        let tag = rest[0];
-        let size = 3 + body_length(tag);
-        made = made | (tag == 6);
-        rest = &rest[size..];
-    };
-    bad
 }

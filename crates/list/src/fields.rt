@@ -3,7 +3,8 @@ ghost use mathlib.Core.Path.{_≡_};
 ghost use Prim.Native.Nat.{_+_, _<_, _≤_};
 ghost use lib.ListN.{length};
 ghost use Rattle.list.specs.Tags.{word, known, lenOf};
-ghost use Rattle.list.specs.Fields.{whole};
+ghost use Rattle.list.specs.Fields.{headed, whole};
+ghost use Rattle.list.specs.Waits.{waits};
 
 // A byte with room above it.
 fn wide(byte: u8) -> u16
@@ -40,15 +41,34 @@ pub(crate) fn body_length(tag: u8) -> usize
     if tag == 5 { 0 } else { 4 }
 }
 
-// Whether the field at the head of some bytes can be read: not cut short, its tag known, its length its tag's.
+// Whether the header at the head of some bytes is good: its tag known, its length its tag's.
+fn headed(field: &[u8]) -> bool
+    requires { ⌜ 3 ≤ length (now field) ⌝ }
+    ensures { λ r. ⌜ r ≡ headed (now (field .entry)) ⌝ }
+{
+    let tag = field[0];
+    known(tag) & (word_at(field, 1) as usize == body_length(tag))
+}
+
+// Whether the field at the head of some bytes can be read: not cut short, and its header good.
 pub(crate) fn whole(field: &[u8]) -> bool
     requires { ⌜ 0 < length (now field) ⌝ }
     ensures { λ r. ⌜ r ≡ whole (now (field .entry)) ⌝ }
 {
-    let tag = field[0];
-    let n = body_length(tag);
-    if field.len() < 3 + n {
+    let end = 3 + body_length(field[0]);
+    if field.len() < end {
         return false;
     }
-    known(tag) & (word_at(field, 1) as usize == n)
+    headed(field)
+}
+
+// Whether more bytes may make a field of those at hand: no whole header, or a good one with less than its body.
+pub(crate) fn waits(field: &[u8]) -> bool
+    ensures { λ r. ⌜ r ≡ waits (now (field .entry)) ⌝ }
+{
+    if field.len() < 3 {
+        return true;
+    }
+    let end = 3 + body_length(field[0]);
+    headed(field) & (field.len() < end)
 }

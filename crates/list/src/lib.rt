@@ -2,20 +2,34 @@
 // It is checked whole, then run in order over the cycles of `vram`, which this crate knows only by their contracts.
 ghost use mathlib.Core.Path.{_≡_};
 ghost use Rattle.vram.specs.Board.{board};
-ghost use Rattle.list.specs.Meaning.{outcome, runCall};
+ghost use Rattle.list.specs.Fields.{fields};
+ghost use Rattle.list.specs.Heads.{headOf};
+ghost use Rattle.list.specs.Meaning.{verdict, outcome, runCall};
 
 mod checks;
 mod fields;
 mod runs;
 
-use checks::check;
+use checks::field_number;
+use fields::body_length;
+use fields::waits;
+use fields::whole;
+use runs::cycle_of;
 use runs::run_fields;
+use vram::Cycle;
 use vram::Vram;
 
 // The first refused field's number and offset; zeros where nothing is refused.
-struct Bad {
-    number: u32,
-    place: u64,
+pub struct Bad {
+    pub number: u32,
+    pub place: u64,
+}
+
+// The field at the head of some bytes: one that more bytes may yet make, one that none can, or a cycle and how many bytes it takes.
+pub enum Head {
+    Waits,
+    Wrong,
+    Whole { cycle: Cycle, size: usize },
 }
 
 // The state after a list, the number given back, and the offset of the field that it is about.
@@ -23,6 +37,51 @@ pub struct Ran {
     pub state: Vram,
     pub number: u32,
     pub place: u64,
+}
+
+// The field at the head of some bytes.
+pub fn head_of(bytes: &[u8]) -> Head
+    ensures { λ r. ⌜ r ≡ headOf (now (bytes .entry)) ⌝ }
+{
+    if waits(bytes) {
+        return Head::Waits;
+    }
+    if whole(bytes) {
+        let tag = bytes[0];
+        let size = 3 + body_length(tag);
+        let cycle = cycle_of(tag, &bytes[3..size]);
+        return Head::Whole { cycle, size };
+    }
+    Head::Wrong
+}
+
+// The first refused field of a list, for the rows fitted and whether a full transfer has been made. One made by a field counts for those
+// after it.
+pub fn check(list: &[u8], rows: usize, loaded: bool) -> Bad
+    ensures { λ r. ⌜ r ≡ verdict rows loaded 0 (fields (now (list .entry))) ⌝ }
+{
+    let mut rest = list;
+    let mut made = loaded;
+    let bad = loop {
+        if rest.len() == 0 {
+            break Bad {
+                number: numbers::DONE,
+                place: 0,
+            };
+        }
+        let n = field_number(rest, rows, made);
+        if n != numbers::DONE {
+            break Bad {
+                number: n,
+                place: (list.len() - rest.len()) as u64,
+            };
+        }
+        let tag = rest[0];
+        let size = 3 + body_length(tag);
+        made = made | (tag == 6);
+        rest = &rest[size..];
+    };
+    bad
 }
 
 // A list is checked whole, then run in order. A refusal changes nothing.

@@ -85,7 +85,7 @@ fn split_transfer(body: &[u8]) -> Cycle
 }
 
 // The cycle that a body says.
-fn cycle_of(tag: u8, body: &[u8]) -> Cycle
+pub(crate) fn cycle_of(tag: u8, body: &[u8]) -> Cycle
     requires { ⌜ length (now body) ≡ lenOf tag ⌝ }
     ensures { λ r. ⌜ r ≡ cycleOf tag (now (body .entry)) ⌝ }
 {

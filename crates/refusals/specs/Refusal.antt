@@ -12,6 +12,10 @@ fitted words = (leb 512 words && leb words 262144) && eqb (words % 512) 0
 
 -- ---- 5 to 10: a cycle, for the rows fitted and whether a full transfer has been made
 
+-- the highest number that refuses a cycle, and so a field of a list
+abbrev pub highest : ℕ
+highest = 10
+
 abbrev pub strobesOk : ℕ → Bool
 strobesOk strobes = leb 1 strobes && leb strobes 3
 

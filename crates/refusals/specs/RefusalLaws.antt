@@ -9,7 +9,7 @@ use borrow.Author.Tests.{leb-true, le-leb, ltb-true, lt-ltb}
 use Rattle.numbers.specs.Refuse.{refuse}
 use Rattle.numbers.specs.RefuseLaws.{refuse-zero}
 use Rattle.numbers.specs.Between.{both}
-use Rattle.refusals.specs.Refusal.{fitted, strobesOk, maskingOk, writeRefusal, loadRefusal, fullRefusal, splitRefusal}
+use Rattle.refusals.specs.Refusal.{fitted, highest, strobesOk, maskingOk, writeRefusal, loadRefusal, fullRefusal, splitRefusal}
 
 -- ---- so many rows are fitted
 
@@ -72,12 +72,12 @@ pub masked-write : (rows row column mask : ℕ) → row < rows → column ≤ 51
 unfolding writeRefusal
 masked-write rows row column mask h k = rw (lt-ltb row rows h, le-leb column 511 k)
 
--- ---- what refuses a cycle is 5 to 10
+-- ---- what refuses a cycle is 5 to the highest
 
 abbrev pub Range : ℕ → Type 0
-Range n = (n ≡ 0) ⊎ ((5 ≤ n) × (n ≤ 10))
+Range n = (n ≡ 0) ⊎ ((5 ≤ n) × (n ≤ highest))
 
-within : (holds : Bool) (n later : ℕ) → 5 ≤ n → n ≤ 10 → Range later → Range (refuse holds n later)
+within : (holds : Bool) (n later : ℕ) → 5 ≤ n → n ≤ highest → Range later → Range (refuse holds n later)
 within true n later p q r = r
 within false n later p q r = inr (p, q)
 

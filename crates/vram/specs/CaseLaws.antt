@@ -9,7 +9,7 @@ use Rattle.numbers.specs.RefuseLaws.{firstOf-later}
 use Rattle.vram.specs.declared.Cycle.{Cycle}
 use Rattle.vram.specs.declared.Cycle.the-variants.{WordWrite, BlockWrite, LoadColour, LoadMask, ResetRefresh, FullTransfer, SplitTransfer}
 use Rattle.vram.specs.Board.{Board}
-use Rattle.refusals.specs.Refusal.{writeRefusal, loadRefusal, fullRefusal, splitRefusal}
+use Rattle.refusals.specs.Refusal.{highest, writeRefusal, loadRefusal, fullRefusal, splitRefusal}
 use Rattle.vram.specs.Refusal.{refusal}
 use Rattle.refusals.specs.RefusalLaws.{masked-write, Range, write-among, load-among, full-among, split-among}
 use Rattle.vram.specs.Step.{givenOf, rowsOf, number, Engine, runBy, step, run}
@@ -97,7 +97,7 @@ module _ (rows : ℕ) (made : Bool) where
   unfolding loadRefusal
   colour-accepted word = refusal-colour rows made word 3
 
--- what refuses a cycle is 5 to 10
+-- what refuses a cycle is 5 to the highest
 
 refusal-among : (rows : ℕ) (made : Bool) (c : Cycle) → Range (refusal rows made c)
 unfolding refusal
@@ -109,7 +109,7 @@ refusal-among rows made ResetRefresh = inl refl
 refusal-among rows made (FullTransfer row half tap) = full-among rows row half
 refusal-among rows made (SplitTransfer row half tap) = split-among rows made row half tap
 
-pub refusal-range : (rows : ℕ) (made : Bool) (c : Cycle) → refusal rows made c ≢ 0 → (5 ≤ refusal rows made c) × (refusal rows made c ≤ 10)
+pub refusal-range : (rows : ℕ) (made : Bool) (c : Cycle) → refusal rows made c ≢ 0 → (5 ≤ refusal rows made c) × (refusal rows made c ≤ highest)
 refusal-range rows made c h = ⊎-elim (λ e. absurd (h e)) (λ r. r) (refusal-among rows made c)
 
 -- ---- tags

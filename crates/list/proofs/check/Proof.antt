@@ -1,4 +1,4 @@
--- `list::checks::check` meets its contract: one turn of the loop is one field judged. Assumes nothing.
+-- `list::check` meets its contract: one turn of the loop is one field judged. Assumes nothing.
 use mathlib.Core.Path.{_≡_, ap, _∙_}
 use Prim.Native.Nat.{ℕ, _≤_, _-_}
 use native.Mathlib.Omega.{arith}
@@ -7,8 +7,8 @@ use Rattle.list.specs.Meaning.{verdict}
 use Rattle.list.specs.Fields.{fields}
 use Rattle.list.proofs.Turns.{end-check, turn-bad, turn-fits, turn-good, rest-less, rest-within}
 use borrow.Author.Needs.{needs}
-use Rattle.list.proofs.checks.check.Statement.{statement}
-use Rattle.list.proofs.checks.check.Tie as tie
+use Rattle.list.proofs.check.Statement.{statement}
+use Rattle.list.proofs.check.Tie as tie
 
 abbrev Inv-loop : tie.InvT-loop
 Inv-loop list rows loaded rest₀ made₀ rest made = (length rest ≤ length list) × (verdict rows made (length list - length rest) (fields rest) ≡ verdict rows loaded 0 (fields list))

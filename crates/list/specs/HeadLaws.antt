@@ -1,0 +1,65 @@
+-- Laws of the field at the head of some bytes: how a list is walked by it. Assumes nothing.
+use mathlib.Core.Path.{_≡_, refl, sym, ap, _∙_}
+use mathlib.Core.Bool.{Bool, true, false}
+use mathlib.Core.List.{List, _∷_}
+use Prim.Native.Nat.{ℕ, _+_, _≤_, _<_}
+use native.Mathlib.Omega.{arith}
+use lib.ListN.{length, drop}
+use Rattle.vram.specs.declared.Cycle.{Cycle}
+use Rattle.list.specs.declared.Head.the-variants.{Waits, Wrong, Whole}
+use Rattle.list.specs.Tags.{lenOf, cycleOf}
+use Rattle.list.specs.TagLaws.{len-most}
+use Rattle.list.specs.Fields.{tag, body, whole, fieldOf, fields}
+use Rattle.list.specs.FieldLaws.{whole-length, readable-head}
+use Rattle.list.specs.Meaning.{numberOf, readable, cyclesOf}
+use Rattle.list.specs.VerdictLaws.{number-whole, number-not, cycles-whole}
+use Rattle.list.specs.Waits.{waits}
+use Rattle.list.specs.WaitsLaws.{whole-settled, waits-not}
+use Rattle.list.specs.Heads.{headOf, headNumber}
+
+-- ---- the three cases
+
+module _ (s : List ℕ) where
+  pub head-waits : waits s ≡ true → headOf s ≡ Waits
+  unfolding headOf
+  head-waits h = rw h
+
+  pub head-whole : whole s ≡ true → headOf s ≡ Whole (cycleOf (tag s) (body s)) (3 + lenOf (tag s))
+  unfolding headOf
+  head-whole w = rw (whole-settled s w, w)
+
+  pub head-wrong : waits s ≡ false → whole s ≡ false → headOf s ≡ Wrong
+  unfolding headOf
+  head-wrong h w = rw (h, w)
+
+  -- its number is that of the list's field
+  pub head-number : (rows : ℕ) (made : Bool) → headNumber rows made (headOf s) ≡ numberOf rows made (fieldOf s)
+  unfolding headNumber
+  head-number rows made = go (waits s) refl (whole s) refl
+    where
+      go : (t : Bool) → waits s ≡ t → (u : Bool) → whole s ≡ u → headNumber rows made (headOf s) ≡ numberOf rows made (fieldOf s)
+      go true h u w = ap (headNumber rows made) (head-waits h) ∙ sym (number-not s (waits-not s h) rows made)
+      go false h true w = ap (headNumber rows made) (head-whole w) ∙ sym (number-whole s w rows made)
+      go false h false w = ap (headNumber rows made) (head-wrong h w) ∙ sym (number-not s w rows made)
+
+-- ---- a list that can be read is walked by its heads
+
+module _ (s : List ℕ) (p : 0 < length s) (r : readable (fields s) ≡ true) where
+  pub record Walks (cycle : Cycle) (size : ℕ) : Type 0 where
+    pub head : headOf s ≡ Whole cycle size
+    pub cycles : cyclesOf s ≡ cycle ∷ cyclesOf (drop size s)
+    pub some : 0 < size
+    pub inside : size ≤ length s
+    pub most : size ≤ 13
+
+  -- the head is a whole field; its cycle comes first, then those of the bytes after it
+  pub head-walks : Walks (cycleOf (tag s) (body s)) (3 + lenOf (tag s))
+  head-walks =
+      let w = readable-head s p r in
+      record {
+        head = head-whole s w;
+        cycles = cycles-whole s w;
+        some = omega arith;
+        inside = whole-length s w;
+        most = omega (arith, len-most (tag s));
+      }

@@ -1,0 +1,64 @@
+-- An accepted list performs every field: no step passes over one. Assumes nothing.
+use mathlib.Core.Path.{_≡_, sym, ap, ap₂, _∙_}
+use mathlib.Core.Bool.{Bool}
+use mathlib.Core.List.{List, [], _∷_}
+use Prim.Native.Nat.{ℕ, _+_}
+use native.Mathlib.Omega.{arith}
+use Rattle.vram.specs.declared.Cycle.{Cycle}
+use Rattle.vram.specs.Board.{Board, effect}
+use Rattle.vram.specs.Step.{givenOf, rowsOf, number, runBy, step, run}
+use Rattle.vram.specs.StepLaws.{step-acts}
+use Rattle.vram.specs.KeptLaws.{step-loaded}
+use Rattle.vram.specs.RuleLaws.{step-given}
+use Rattle.vram.specs.CaseLaws.{run-none, run-next, step-rows, number-is}
+use Rattle.list.specs.declared.Bad.{Bad}
+use Rattle.list.specs.Fields.{Field, Reads, Unreadable, sizeOf, fields}
+use Rattle.list.specs.Meaning.{numberOf, madeBy, verdict, cycles, cyclesOf, verdictOf, runCall}
+use Rattle.list.specs.VerdictLaws.{accepted-head, accepted-tail}
+use Rattle.list.specs.CallLaws.{accepted-given, verdict-fields, call-runs}
+
+-- fields that are accepted on a board
+pub record Accepted (at : ℕ) (fs : List Field) (b : Board) : Type 0 where
+  pub given : givenOf b ≡ 0
+  pub none : verdict (rowsOf b) (b .state .loaded) at fs .number ≡ 0
+
+-- the first acts, and the others are accepted on the board that it leaves
+module _ (at : ℕ) (c : Cycle) (n : ℕ) (fs : List Field) (b : Board) (a : Accepted at (Reads c n ∷ fs) b) where
+  pub first-acts : number c b ≡ 0
+  unfolding numberOf
+  first-acts = number-is c b (a .given) ∙ accepted-head (rowsOf b) (b .state .loaded) at (Reads c n) fs (a .none)
+
+  pub others-accepted : Accepted (at + sizeOf (Reads c n)) fs (step c b)
+  unfolding madeBy
+  others-accepted =
+      record {
+        given = step-given c b ∙ a .given;
+        none =
+            ap₂ (λ (k : ℕ) (made : Bool). verdict k made (at + sizeOf (Reads c n)) fs .number) (step-rows c b) (step-loaded b c first-acts)
+            ∙ accepted-tail (rowsOf b) (b .state .loaded) at (Reads c n) fs (a .none);
+      }
+
+-- a field that cannot be read is accepted nowhere
+pub unreadable-refused : (at : ℕ) (fs : List Field) (b : Board) → Accepted at (Unreadable ∷ fs) b → ⊥
+unfolding numberOf
+unreadable-refused at fs b a = omega (arith, accepted-head (rowsOf b) (b .state .loaded) at Unreadable fs (a .none))
+
+pub fields-perform : (at : ℕ) (fs : List Field) (b : Board) → Accepted at fs b → run (cycles fs) b ≡ runBy effect (cycles fs) b
+unfolding cycles
+fields-perform at [] b a = run-none step b ∙ sym (run-none effect b)
+fields-perform at (Reads c n ∷ fs) b a =
+    run-next step c (cycles fs) b
+    ∙ fields-perform (at + sizeOf (Reads c n)) fs (step c b) (others-accepted at c n fs b a)
+    ∙ ap (runBy effect (cycles fs)) (step-acts effect c b (first-acts at c n fs b a))
+    ∙ sym (run-next effect c (cycles fs) b)
+fields-perform at (Unreadable ∷ fs) b a = absurd (unreadable-refused at fs b a)
+
+module _ (list : List ℕ) (b : Board) (h : verdictOf list b .number ≡ 0) where
+  pub list-accepted : Accepted 0 (fields list) b
+  list-accepted =
+      let g = accepted-given list b h in
+      record { given = g; none = sym (ap (λ (v : Bad). v .number) (verdict-fields list b g)) ∙ h }
+
+  -- what an accepted list leaves is what each of its cycles does, in order
+  pub call-performs : runCall list b .after ≡ runBy effect (cyclesOf list) b
+  call-performs = call-runs list b h ∙ fields-perform 0 (fields list) b list-accepted
