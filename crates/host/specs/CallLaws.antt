@@ -1,66 +1,28 @@
--- Laws of the C interface: a lawful state comes back as it was given, and the two ways out of each call. Assumes nothing.
-use Prim.Native.Nat.{ℕ, _≤_}
-use mathlib.Core.Path.{_≡_, refl, sym, ap, ap₂, _∙_}
-use mathlib.Core.Bool.{Bool, true, false, not, _&&_, _||_, cond}
+-- Laws of the calls: the two ways out of each; a refusal hands the state back as it came and changes nothing lent. Assumes nothing.
+use Prim.Native.Nat.{ℕ}
+use mathlib.Core.Path.{_≡_, refl, sym, ap, _∙_}
+use mathlib.Core.Bool.{Bool, true, false, cond}
 use mathlib.Core.List.{List}
-use native.Mathlib.Omega.{arith}
-use lib.Dec.{eqb, leb}
-use borrow.Author.Tests.{eqb-true, eqb-false, leb-true}
-use Rattle.numbers.specs.Between.{both}
-use Rattle.words.specs.Bit.{digit}
-use Rattle.words.specs.BitLaws.{yes-or-no}
+use mathlib.Core.Logic.{_≢_}
+use lib.ListN.{length, getD}
+use Rattle.numbers.specs.RefuseLaws.{leaves-before}
 use Rattle.vram.specs.declared.Vram.{Vram}
-use Rattle.vram.specs.declared.Waiting.the-variants.{None, Tap}
-use Rattle.vram.specs.Board.{board}
+use Rattle.vram.specs.Board.{Board, board}
+use Rattle.vram.specs.Serial.{clock}
 use Rattle.vram.specs.declared.Clocked.{Clocked as VramClocked}
 use Rattle.vram.specs.declared.Answered.{Answered}
-use Rattle.vram.specs.Calls.{clockCall as vramClock}
+use Rattle.vram.specs.Calls.{clockRefusal, clockCall as vramClock}
 use Rattle.palette.specs.declared.Palette.{Palette}
 use Rattle.list.specs.declared.Ran.{Ran as ListRan}
-use Rattle.list.specs.Meaning.{outcome, runCall}
-use Rattle.panel.specs.Calls.{outcome as panelOutcome, runCall as panelRun}
+use Rattle.list.specs.Meaning.{Outcome as ListOutcome, outcome, runCall}
+use Rattle.list.specs.CallLaws.{call-given, call-refuses}
+use Rattle.panel.specs.Calls.{Outcome as PanelOutcome, outcome as panelOutcome, runCall as panelRun}
+use Rattle.panel.specs.CallLaws.{run-number, run-refuses}
 use Rattle.host.specs.declared.Registers.{Registers}
 use Rattle.host.specs.declared.Clocked.{Clocked}
-use Rattle.host.specs.State.{lawful, taken, handedBy, handed}
-use Rattle.host.specs.Calls.{listed, listAnswer, listCall, clockCall, shown, panelAnswer, panelCall}
-
--- ---- there and back
-
--- a state that a `Vram` can be comes back as it was given
-pub handed-taken : (s : Registers) → lawful s ≡ true → handed (taken s) ≡ s
-unfolding lawful taken handed
-handed-taken s e = go (eqb (s .waiting) 0) refl
-  where
-    flags : (leb (s .persistent) 1 ≡ true) × (leb (s .loaded) 1 ≡ true) × (leb (s .waiting) 1 ≡ true) × ((eqb (s .waiting) 1 || eqb (s .tap) 0) ≡ true)
-    flags =
-        let a = both ((leb (s .persistent) 1 && leb (s .loaded) 1) && leb (s .waiting) 1) (eqb (s .waiting) 1 || eqb (s .tap) 0) e in
-        let b = both (leb (s .persistent) 1 && leb (s .loaded) 1) (leb (s .waiting) 1) (a .0) in
-        let c = both (leb (s .persistent) 1) (leb (s .loaded) 1) (b .0) in
-        (c .0, c .1, b .1, a .1)
-
-    registers : ℕ → ℕ → ℕ → ℕ → Registers
-    registers persistent loaded waiting tap =
-        record { colour = s .colour; mask = s .mask; persistent = persistent; loaded = loaded; pointer = s .pointer; waiting = waiting; tap = tap }
-
-    last : (u : Bool) → eqb (s .waiting) 1 ≡ u → s .waiting ≡ 0 → (u || eqb (s .tap) 0) ≡ true → s .tap ≡ 0
-    last true p z q = let k : s .waiting ≡ 1 = eqb-true (s .waiting) 1 p in absurd (omega arith)
-    last false p z q = eqb-true (s .tap) 0 q
-
-    p : digit (not (eqb (s .persistent) 0)) ≡ s .persistent
-    p = yes-or-no (s .persistent) (leb-true (s .persistent) 1 (flags .0))
-
-    l : digit (not (eqb (s .loaded) 0)) ≡ s .loaded
-    l = yes-or-no (s .loaded) (leb-true (s .loaded) 1 (flags .1))
-
-    go : (t : Bool) → eqb (s .waiting) 0 ≡ t → handedBy (cond t None (Tap (s .tap))) (taken s) ≡ s
-    go true q =
-        let z : s .waiting ≡ 0 = eqb-true (s .waiting) 0 q in
-        rw (p, l) (ap₂ (registers (s .persistent) (s .loaded)) (sym z) (sym (last (eqb (s .waiting) 1) refl z (flags .3))))
-    go false q =
-        let k = eqb-false (s .waiting) 0 q in
-        let h : s .waiting ≤ 1 = leb-true (s .waiting) 1 (flags .2) in
-        let z : 1 ≡ s .waiting = omega arith in
-        rw (p, l) (ap (λ (w : ℕ). registers (s .persistent) (s .loaded) w (s .tap)) z)
+use Rattle.host.specs.State.{lawful, taken, handed}
+use Rattle.host.specs.StateLaws.{handed-taken}
+use Rattle.host.specs.Calls.{Listed, listed, listAnswer, listCall, clockCall, ShownTo, shown, panelAnswer, panelCall}
 
 -- ---- the two ways out of each call, by what the code has
 
@@ -107,3 +69,69 @@ module _ (s : Registers) where
         ap (λ (x : Registers). shown (record { state = x; number = a .number }) out′) g
         ∙ ap panelAnswer (f ∙ ap (λ (x : Vram). panelRun x r p t clocks blank out) e)
         ∙ sym (rw h)
+
+-- ---- a refusal hands the state back as it came, also where no `Vram` can be so, and changes nothing lent
+
+module _ (s : Registers) where
+  -- both ways out are as `back` makes them: so is the call
+  either-way : {O : Type 0} (number : O → ℕ) (back : O → O) (done excluded : O)
+      → (lawful s ≡ true → number done ≢ 0 → done ≡ back done) → excluded ≡ back excluded
+      → number (cond (lawful s) done excluded) ≢ 0 → cond (lawful s) done excluded ≡ back (cond (lawful s) done excluded)
+  either-way number back done excluded f g = go (lawful s) refl
+    where
+      go : (t : Bool) → lawful s ≡ t → number (cond t done excluded) ≢ 0 → cond t done excluded ≡ back (cond t done excluded)
+      go true e n = f e n
+      go false e n = g
+
+  pub list-refused : (m q list : List ℕ) → let o = listCall s m q list in o .answer .number ≢ 0
+      → o ≡ listed (record { state = s; number = o .answer .number; place = o .answer .place }) m q
+  unfolding listCall
+  list-refused m q list = either-way (λ (o : Listed). o .answer .number) (λ (o : Listed). back o s m q) (listAnswer ran) _ done refl
+    where
+      given : Board
+      given = board (taken s) m q
+
+      ran : ListOutcome
+      ran = runCall list given
+
+      back : Listed → Registers → List ℕ → List ℕ → Listed
+      back o t m′ q′ = listed (record { state = t; number = o .answer .number; place = o .answer .place }) m′ q′
+
+      done : lawful s ≡ true → ran .given .number ≢ 0 → listAnswer ran ≡ back (listAnswer ran) s m q
+      done e n =
+          ap (λ (b : Board). back (listAnswer ran) (handed (b .state)) (b .memory) (b .serial))
+          (call-refuses list given (λ z. n (ap (λ v. v .number) (call-given list given) ∙ z)))
+          ∙ ap (λ (t : Registers). back (listAnswer ran) t m q) (handed-taken s e)
+
+  pub clock-refused : (r : List ℕ) → let o = clockCall s r in o .number ≢ 0 → o ≡ record { state = s; word = 0; number = o .number }
+  unfolding clockCall vramClock
+  clock-refused r = either-way (λ (o : Clocked). o .number) (λ (o : Clocked). clocked s 0 (o .number)) _ _ done refl
+    where
+      below : VramClocked
+      below = vramClock (taken s) r
+
+      clocked : Registers → ℕ → ℕ → Clocked
+      clocked t word number = record { state = t; word = word; number = number }
+
+      done : lawful s ≡ true → below .number ≢ 0 → clocked (handed (below .state)) (below .word) (below .number) ≡ clocked s 0 (below .number)
+      done e n =
+          let k = clockRefusal (taken s) (length r) in
+          rw (leaves-before k (taken s) (clock (taken s)) n, leaves-before k 0 (getD r (taken s .pointer) 0) n, handed-taken s e)
+
+  pub panel-refused : (r : List ℕ) (p : Palette) (t : List ℕ) (clocks blank : ℕ) (out : List ℕ)
+      → let o = panelCall s r p t clocks blank out in o .answer .number ≢ 0
+      → o ≡ shown (record { state = s; number = o .answer .number }) out
+  unfolding panelCall
+  panel-refused r p t clocks blank out =
+      either-way (λ (o : ShownTo). o .answer .number) (λ (o : ShownTo). back s (o .answer .number)) (panelAnswer ran) _ done refl
+    where
+      ran : PanelOutcome
+      ran = panelRun (taken s) r p t clocks blank out
+
+      back : Registers → ℕ → ShownTo
+      back u number = shown (record { state = u; number = number }) out
+
+      done : lawful s ≡ true → ran .answer .number ≢ 0 → panelAnswer ran ≡ back s (ran .answer .number)
+      done e n =
+          ap panelAnswer (sym (run-refuses (taken s) r p t clocks blank out (ran .answer .number) (run-number (taken s) r p t clocks blank out) n))
+          ∙ ap (λ (u : Registers). back u (ran .answer .number)) (handed-taken s e)

@@ -1,6 +1,5 @@
 // The video RAM's state as C has it, and as `vram` has it.
 ghost use mathlib.Core.Path.{_≡_};
-ghost use Rattle.words.specs.Bit.{digit};
 ghost use Rattle.host.specs.State.{lawful, waitingOf, taken, handed};
 use crate::Registers;
 use vram::Vram;
@@ -40,23 +39,18 @@ pub(crate) fn take(state: Registers) -> Vram
     }
 }
 
-// A yes-or-no as a byte.
-fn byte(yes: bool) -> u8
-    ensures { λ r. ⌜ r ≡ digit yes ⌝ }
-{
-    if yes { 1 } else { 0 }
-}
-
 pub(crate) fn hand(state: Vram) -> Registers
     ensures { λ r. ⌜ r ≡ handed state ⌝ }
 {
+    let persistent = state.persistent as u8;
+    let loaded = state.loaded as u8;
     let waiting = state.waiting;
     match waiting {
         Waiting::None => Registers {
             colour: state.colour,
             mask: state.mask,
-            persistent: byte(state.persistent),
-            loaded: byte(state.loaded),
+            persistent,
+            loaded,
             pointer: state.pointer,
             waiting: 0,
             tap: 0,
@@ -64,8 +58,8 @@ pub(crate) fn hand(state: Vram) -> Registers
         Waiting::Tap(tap) => Registers {
             colour: state.colour,
             mask: state.mask,
-            persistent: byte(state.persistent),
-            loaded: byte(state.loaded),
+            persistent,
+            loaded,
             pointer: state.pointer,
             waiting: 1,
             tap,

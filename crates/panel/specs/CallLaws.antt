@@ -1,5 +1,5 @@
 -- What holds where a run is not refused, and the ways out of the call. Assumes nothing.
-use mathlib.Core.Path.{_≡_, sym, ap, ap₂, _∙_}
+use mathlib.Core.Path.{_≡_, refl, sym, ap, ap₂, _∙_}
 use mathlib.Core.Bool.{true, _&&_}
 use mathlib.Core.List.{List}
 use mathlib.Core.Logic.{_≢_}
@@ -69,6 +69,12 @@ module _ (s : Vram) (r : List ℕ) (p : Palette) (t : List ℕ) (k blank : ℕ) 
       let i : a .number ≡ 0 = ap (λ (x : Moved). x .number) f ∙ clocks-number s k ∙ m in
       let j : a .state ≡ clocks k s = ap (λ (x : Moved). x .state) f ∙ clocks-moves s k m in
       rw (← e, z) (ap₂ outcome (ap₂ answered i j) g)
+
+-- the number that a run gives back
+pub run-number : (s : Vram) (r : List ℕ) (p : Palette) (t : List ℕ) (k blank : ℕ) (out : List ℕ)
+    → runCall s r p t k blank out .answer .number ≡ runRefusal s p (length r) (length t) k (length out)
+unfolding runCall
+run-number s r p t k blank out = refl
 
 -- what an accepted run answers and leaves
 pub run-made : (s : Vram) (r : List ℕ) (p : Palette) (t : List ℕ) (k blank : ℕ) (out : List ℕ) → runRefusal s p (length r) (length t) k (length out) ≡ 0
