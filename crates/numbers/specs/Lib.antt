@@ -5,4 +5,5 @@ pub mod Between
 pub mod Buffer
 pub mod BufferLaws
 pub mod Determined
+pub mod Determines
 pub mod Once

@@ -3,7 +3,6 @@ pub mod Table
 pub mod State
 pub mod Access
 pub mod Calls
-pub mod Once
 pub mod TableLaws
 pub mod StateLaws
 pub mod CallLaws

@@ -20,4 +20,3 @@ pub mod ItPaints
 pub mod ItIsShortest
 pub mod ItCounts
 pub mod ClosedForm
-pub mod Once
