@@ -17,4 +17,3 @@ pub mod Refresh
 pub mod Moves
 pub mod Pans
 pub mod Example
-pub mod Once

@@ -3,4 +3,3 @@ pub mod State
 pub mod Calls
 pub mod StateLaws
 pub mod CallLaws
-pub mod Once

@@ -6,4 +6,3 @@ pub mod Buffer
 pub mod BufferLaws
 pub mod Determined
 pub mod Determines
-pub mod Once

@@ -4,4 +4,3 @@ pub mod Calls
 pub mod PanelLaws
 pub mod CallLaws
 pub mod InTwo
-pub mod Once

@@ -1,4 +1,3 @@
 -- What refuses a cycle by its numbers alone, and the laws about it.
 pub mod Refusal
 pub mod RefusalLaws
-pub mod Once

@@ -3,4 +3,3 @@ pub mod Text
 pub mod TextLaws
 pub mod Report
 pub mod ReportLaws
-pub mod Once

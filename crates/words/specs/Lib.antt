@@ -4,4 +4,3 @@ pub mod BitLaws
 pub mod Word
 pub mod WordLaws
 pub mod CodeLaws
-pub mod Once
