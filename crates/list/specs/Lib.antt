@@ -18,4 +18,3 @@ pub mod EncodedLaws
 pub mod WaitsLaws
 pub mod HeadLaws
 pub mod RangeLaws
-pub mod Once

@@ -4,5 +4,4 @@ pub mod RefuseLaws
 pub mod Between
 pub mod Buffer
 pub mod BufferLaws
-pub mod Determined
 pub mod Determines

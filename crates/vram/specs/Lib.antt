@@ -24,4 +24,3 @@ pub mod CallLaws
 pub mod CaseLaws
 pub mod HighLaws
 pub mod Sheet
-pub mod Once
