@@ -8,7 +8,7 @@ use Rattle.vram.specs.Memory.{put, puts, copied}
 use Rattle.vram.specs.Board.{effect}
 use Rattle.vram.specs.Refusal.{given, refusal}
 use Rattle.vram.specs.Step.{number, stepBy, runBy}
-use Rattle.vram.specs.Serial.{clockIn}
+use Rattle.vram.specs.Serial.{clockIn, lengthOf}
 use Rattle.vram.specs.Calls.{cycleCall, clockRefusal, clockCall}
 use Rattle.vram.specs.Kinds.{tagOf}
 use Rattle.palette.specs.State.{ruled as paletteRuled}
@@ -23,5 +23,5 @@ use Rattle.planner.specs.Calls.{fillRefusal, fillCall}
 use Rattle.bench.specs.Cases.{starred, Every}
 
 pub starred-cases-hold : Every starred
-unfolding bit ofBits merged covers lets writeRefusal loadRefusal fullRefusal splitRefusal ruled put puts copied effect given refusal number stepBy runBy clockIn cycleCall clockRefusal clockCall tagOf paletteRuled written writtenTable paletteRefusal writeCall word known lenOf cycleOf whole fieldOf parts encode encodeAll bodyOf cycles inside touched picked columnsOf plan fillRefusal fillCall
-starred-cases-hold = (refl, (refl, (refl, (refl, (refl, (refl, (refl, (refl, ((refl, refl, refl), ((refl, refl, refl), ((refl, refl, refl), ((refl, refl), tt))))))))))))
+unfolding bit ofBits merged covers lets writeRefusal loadRefusal fullRefusal splitRefusal ruled put puts copied effect given refusal number stepBy runBy lengthOf clockIn cycleCall clockRefusal clockCall tagOf paletteRuled written writtenTable paletteRefusal writeCall word known lenOf cycleOf whole fieldOf parts encode encodeAll bodyOf cycles inside touched picked columnsOf plan fillRefusal fillCall
+starred-cases-hold = (refl, (refl, (refl, (refl, (refl, (refl, (refl, (refl, ((refl, refl, refl), ((refl, refl, refl), ((refl, refl, refl), ((λ m r h k. (rw (h, k), rw (h, k))), tt))))))))))))

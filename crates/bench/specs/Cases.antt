@@ -1,16 +1,14 @@
 -- The bench cases marked * in document 01, "Bench cases": one list that holds them and no other, in its order. Assumes nothing.
 use Prim.Native.Nat.{ℕ, zero, suc}
 use mathlib.Core.Path.{_≡_}
-use mathlib.Core.Bool.{false}
 use mathlib.Core.List.{List, [], _∷_, _++_}
-use lib.ListN.{replicate}
+use lib.ListN.{length, replicate}
 use Rattle.vram.specs.declared.Vram.{Vram}
 use Rattle.vram.specs.declared.Cycle.{Cycle}
 use Rattle.vram.specs.declared.Cycle.the-variants.{WordWrite, BlockWrite, LoadColour, FullTransfer, SplitTransfer}
 use Rattle.vram.specs.declared.Word.{Word}
 use Rattle.vram.specs.State.{fresh, withColour}
 use Rattle.vram.specs.Board.{Board, board}
-use Rattle.vram.specs.Refusal.{refusal}
 use Rattle.vram.specs.Step.{run}
 use Rattle.vram.specs.Calls.{cycleCall, clockCall}
 use Rattle.palette.specs.declared.Palette.{Palette}
@@ -32,7 +30,7 @@ pub data Case : Type 0 where
   palette : (writes : List (ℕ × ℕ)) (state : Palette) (table : List ℕ) → Case
   -- columns of a fill of one row, M FFFF, not persistent, the number of cycles and the cycles
   fill-row : (firstColumn endColumn cycles : ℕ) (list : List Cycle) → Case
-  -- of 512 rows fitted: a row that is accepted, one that is refused, and its number
+  -- a word write to every memory of 512 rows: a row that is accepted, one that is refused, and its number
   row : (accepted refused number : ℕ) → Case
 
 -- colour A5C3, a memory, and a serial register of zeros
@@ -76,7 +74,9 @@ Holds (fill-row firstColumn endColumn cycles list) =
     let o = fillCall (fill 1 0 1 firstColumn endColumn 0xFFFF 0x0011 0) (replicate 32 0) in
     (o .answer .number ≡ 0) × (o .answer .cycles ≡ cycles) × (cyclesOf (bytesWritten o) ≡ list)
 Holds (row accepted refused number) =
-    (refusal 512 false (WordWrite refused 0 0 0 0 3) ≡ number) × (refusal 512 false (WordWrite accepted 0 0 0 0 3) ≡ 0)
+    (m r : List ℕ) → length m ≡ 262144 → length r ≡ 256
+    → (cycleCall (WordWrite refused 0 0 0 0 3) (board fresh m r) ≡ record { given = number; after = board fresh m r })
+    × (cycleCall (WordWrite accepted 0 0 0 0 3) (board fresh m r) .given ≡ 0)
 
 -- ---- document 01's cases
 
