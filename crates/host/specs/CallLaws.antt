@@ -4,14 +4,12 @@ use mathlib.Core.Path.{_≡_, refl, sym, ap, _∙_}
 use mathlib.Core.Bool.{Bool, true, false, cond}
 use mathlib.Core.List.{List}
 use mathlib.Core.Logic.{_≢_}
-use lib.ListN.{length, getD}
-use Rattle.numbers.specs.RefuseLaws.{leaves-before}
 use Rattle.vram.specs.declared.Vram.{Vram}
 use Rattle.vram.specs.Board.{Board, board}
-use Rattle.vram.specs.Serial.{clock}
 use Rattle.vram.specs.declared.Clocked.{Clocked as VramClocked}
 use Rattle.vram.specs.declared.Answered.{Answered}
-use Rattle.vram.specs.Calls.{clockRefusal, clockCall as vramClock}
+use Rattle.vram.specs.Calls.{clockCall as vramClock}
+use Rattle.vram.specs.CallLaws.{clock-refuses}
 use Rattle.palette.specs.declared.Palette.{Palette}
 use Rattle.list.specs.declared.Ran.{Ran as ListRan}
 use Rattle.list.specs.Meaning.{Outcome as ListOutcome, outcome, runCall}
@@ -21,7 +19,7 @@ use Rattle.panel.specs.CallLaws.{run-number, run-refuses}
 use Rattle.host.specs.declared.Registers.{Registers}
 use Rattle.host.specs.declared.Clocked.{Clocked}
 use Rattle.host.specs.State.{lawful, taken, handed}
-use Rattle.host.specs.StateLaws.{handed-taken}
+use Rattle.host.specs.StateLaws.{handed-taken, taken-handed, handed-lawful}
 use Rattle.host.specs.Calls.{Listed, listed, listAnswer, listCall, clockCall, ShownTo, shown, panelAnswer, panelCall}
 
 -- ---- the two ways out of each call, by what the code has
@@ -104,7 +102,7 @@ module _ (s : Registers) where
           ∙ ap (λ (t : Registers). back (listAnswer ran) t m q) (handed-taken s e)
 
   pub clock-refused : (r : List ℕ) → let o = clockCall s r in o .number ≢ 0 → o ≡ record { state = s; word = 0; number = o .number }
-  unfolding clockCall vramClock
+  unfolding clockCall
   clock-refused r = either-way (λ (o : Clocked). o .number) (λ (o : Clocked). clocked s 0 (o .number)) _ _ done refl
     where
       below : VramClocked
@@ -115,8 +113,8 @@ module _ (s : Registers) where
 
       done : lawful s ≡ true → below .number ≢ 0 → clocked (handed (below .state)) (below .word) (below .number) ≡ clocked s 0 (below .number)
       done e n =
-          let k = clockRefusal (taken s) (length r) in
-          rw (leaves-before k (taken s) (clock (taken s)) n, leaves-before k 0 (getD r (taken s .pointer) 0) n, handed-taken s e)
+          ap (λ (c : VramClocked). clocked (handed (c .state)) (c .word) (c .number)) (clock-refuses (taken s) r n)
+          ∙ ap (λ (t : Registers). clocked t 0 (below .number)) (handed-taken s e)
 
   pub panel-refused : (r : List ℕ) (p : Palette) (t : List ℕ) (clocks blank : ℕ) (out : List ℕ)
       → let o = panelCall s r p t clocks blank out in o .answer .number ≢ 0
@@ -135,3 +133,19 @@ module _ (s : Registers) where
       done e n =
           ap panelAnswer (sym (run-refuses (taken s) r p t clocks blank out (ran .answer .number) (run-number (taken s) r p t clocks blank out) n))
           ∙ ap (λ (u : Registers). back u (ran .answer .number)) (handed-taken s e)
+
+-- ---- a call on a state that was handed to C is the call below, so a session in C is the session below
+
+module _ (v : Vram) where
+  pub list-handed : (m q list : List ℕ) → listCall (handed v) m q list ≡ listAnswer (runCall list (board v m q))
+  unfolding listCall
+  list-handed m q list = rw (handed-lawful v, taken-handed v)
+
+  pub clock-handed : (r : List ℕ) → let c = vramClock v r in clockCall (handed v) r ≡ record { state = handed (c .state); word = c .word; number = c .number }
+  unfolding clockCall
+  clock-handed r = rw (handed-lawful v, taken-handed v)
+
+  pub panel-handed : (r : List ℕ) (p : Palette) (t : List ℕ) (clocks blank : ℕ) (out : List ℕ)
+      → panelCall (handed v) r p t clocks blank out ≡ panelAnswer (panelRun v r p t clocks blank out)
+  unfolding panelCall
+  panel-handed r p t clocks blank out = rw (handed-lawful v, taken-handed v)

@@ -1,4 +1,5 @@
--- An address write drops an unfinished colour: with three colours after it, it sets exactly its entry. Assumes nothing.
+-- An address write drops an unfinished colour: with three colours after it, it sets exactly its entry. What a write of select 3 leaves.
+-- Assumes nothing.
 use mathlib.Core.Path.{_≡_, refl, ap, _∙_}
 use mathlib.Core.Bool.{true}
 use mathlib.Core.List.{List}
@@ -41,6 +42,23 @@ module _ (p : Palette) (t : List ℕ) (rule : ruled p ≡ true) (bytes : length 
   -- after a write of select 0 the phase is 0, whatever came before
   pub address-write-resets : (a : ℕ) → writeCall p t 0 a .answer .state .phase ≡ 0
   address-write-resets a = rw (address-write a)
+
+  -- a write of select 3 takes the low six bits of entry a to the registers; A is a + 1, from 255 to 0, the phase 0, and nothing else changes
+  pub entry-taken : (a : ℕ) → writeCall p t 3 a
+      ≡ outcome
+      (accessed
+      (record {
+        address = (a + 1) % 256;
+        phase = 0;
+        red = entry t a .red % 64;
+        green = entry t a .green % 64;
+        blue = entry t a .blue % 64;
+        mask = p .mask;
+      })
+      0 0)
+      t
+  unfolding written writtenTable
+  entry-taken a = write-accepted p t rule bytes 3 a (omega arith)
 
   colour-write : (d : ℕ) → writeCall p t 1 d ≡ outcome (accessed (coloured p d) 0 0) (colouredTable p t d)
   unfolding written writtenTable

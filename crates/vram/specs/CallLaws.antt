@@ -1,17 +1,27 @@
--- Laws of the calls by which a run moves. Assumes nothing.
+-- Laws of the calls that move the serial port: a clock, and a run of clocks. Assumes nothing.
 use mathlib.Core.Path.{_≡_, refl, ap}
 use mathlib.Core.Bool.{Bool, true, false, _||_}
+use mathlib.Core.List.{List}
+use mathlib.Core.Logic.{_≢_}
 use Prim.Native.Nat.{ℕ, _+_, _≤_}
 use native.Mathlib.Omega.{arith}
 use lib.Dec.{eqb, leb}
+use lib.ListN.{length, getD}
 use borrow.Author.Tests.{leb-true, le-leb, eq-eqb, eqb-true}
-use Rattle.numbers.specs.RefuseLaws.{refuse-zero, leaves-made}
+use Rattle.numbers.specs.RefuseLaws.{refuse-zero, leaves-made, leaves-before}
 use Rattle.vram.specs.declared.Vram.{Vram}
 use Rattle.vram.specs.State.{ruled}
-use Rattle.vram.specs.Serial.{through, clocks}
+use Rattle.vram.specs.Serial.{through, clock, clocks}
 use Rattle.vram.specs.SerialLaws.{clocks-keep}
 use Rattle.vram.specs.RuleLaws.{Places, clocks-ruled}
-use Rattle.vram.specs.Calls.{clocksRefusal, clocksCall}
+use Rattle.vram.specs.Calls.{clockRefusal, clockCall, clocksRefusal, clocksCall}
+
+-- a refused clock answers the word 0 and changes nothing
+pub clock-refuses : (s : Vram) (r : List ℕ) → clockCall s r .number ≢ 0 → clockCall s r ≡ record { state = s; word = 0; number = clockCall s r .number }
+unfolding clockCall
+clock-refuses s r h =
+    let n = clockRefusal s (length r) in
+    rw (leaves-before n s (clock s) h, leaves-before n 0 (getD r (s .pointer) 0) h)
 
 -- the number that `clocks` gives back
 pub clocks-number : (s : Vram) (k : ℕ) → clocksCall s k .number ≡ clocksRefusal s k
