@@ -69,6 +69,6 @@ pub(crate) fn waits(field: &[u8]) -> bool
     if field.len() < 3 {
         return true;
     }
-    let end = 3 + body_length(field[0]);
-    headed(field) & (field.len() < end)
+    let size = 3 + body_length(field[0]);
+    headed(field) & (field.len() < size)
 }

@@ -15,8 +15,8 @@ shared-slice-read-body-length c = search needs
 body-length-requires : tie.Need-body-length-requires
 body-length-requires c κs = search needs
 
-add-end : tie.Need-add-end
-add-end c = search needs
+add-size : tie.Need-add-size
+add-size c = search needs
 
 headed-requires : tie.Need-headed-requires
 headed-requires c κs = search needs
@@ -32,6 +32,6 @@ waits-spec =
     returns
     shared-slice-read-body-length
     body-length-requires
-    add-end
+    add-size
     headed-requires
     returns-2)
