@@ -14,9 +14,8 @@ check-once = by-result refl (λ κs a v w. refl)
 pub run-once : Determines run.signature (λ M. run.clauses)
 run-once =
     by-outcome refl
-    (λ κs a o.
-      (
-        record { state = o .after .state; number = o .given .number; place = o .given .place },
-        (tt, (o .after .memory, (o .after .serial, (tt, tt)))),
-      ))
+    (λ κs a o. (
+      record { state = o .after .state; number = o .given .number; place = o .given .place },
+      (tt, (o .after .memory, (o .after .serial, (tt, tt)))),
+    ))
     (λ κs a x. refl)

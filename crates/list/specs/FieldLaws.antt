@@ -7,7 +7,7 @@ use native.Mathlib.Omega.{arith}
 use lib.Dec.{eqb, leb}
 use lib.ListN.{length, drop, length-append, length-drop, List·getD-append}
 use lib.Seq.{take-append-le, drop-append-le, drop-nil}
-use borrow.Author.Tests.{leb-true, le-leb}
+use borrow.Author.Tests.{leb-true, le-leb, lt-leb}
 use Rattle.numbers.specs.Between.{both}
 use Rattle.list.specs.Tags.{word, known, lenOf, cycleOf}
 use Rattle.list.specs.Fields.{Field, Reads, Unreadable, tag, body, headed, whole, fieldOf, parts, fields}
@@ -36,6 +36,11 @@ module _ (s : List ℕ) (h : whole s ≡ true) where
 pub whole-is : (s : List ℕ) → 3 + lenOf (tag s) ≤ length s → whole s ≡ headed s
 unfolding whole
 whole-is s h = rw (le-leb (3 + lenOf (tag s)) (length s) h)
+
+-- and one that is cut short is not
+pub whole-short : (s : List ℕ) → length s < 3 + lenOf (tag s) → whole s ≡ false
+unfolding whole
+whole-short s h = rw (lt-leb (3 + lenOf (tag s)) (length s) h)
 
 pub field-not : (s : List ℕ) → whole s ≡ false → fieldOf s ≡ Unreadable
 unfolding fieldOf

@@ -26,7 +26,8 @@ fn part(six: u8) -> u8
 fn place(word: u16, mask: u8) -> usize
     ensures { λ r. ⌜ (r ≡ 3 * bitAnd (pixel word) mask) × (r ≤ 765) ⌝ }
 {
-    3 * ((pixel(word) & mask) as usize)
+    let byte = pixel(word);
+    3 * ((byte & mask) as usize)
 }
 
 // The i-th three bytes of the buffer take the colour that a word shows.

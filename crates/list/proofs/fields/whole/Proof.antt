@@ -1,9 +1,7 @@
 -- `list::fields::whole` meets its contract. Assumes nothing.
 use mathlib.Core.Path.{sym, _∙_}
 use native.Mathlib.Omega.{arith}
-use borrow.Author.Tests.{lt-leb}
-use Rattle.list.specs.Fields.{whole}
-use Rattle.list.specs.FieldLaws.{whole-is}
+use Rattle.list.specs.FieldLaws.{whole-is, whole-short}
 use borrow.Author.Needs.{needs}
 use Rattle.list.proofs.fields.whole.Statement.{statement}
 use Rattle.list.proofs.fields.whole.Tie as tie
@@ -18,8 +16,7 @@ add-end : tie.Need-add-end
 add-end c = search needs
 
 returns : tie.Need-returns
-unfolding whole
-returns c = rw (← c .before .body-length .ensures .0, lt-leb _ _ (c .if1 .taken))
+returns c = sym (whole-short _ (omega (arith, c .before .body-length .ensures .0, c .if1 .taken)))
 
 headed-requires : tie.Need-headed-requires
 headed-requires c κs = search needs

@@ -64,13 +64,6 @@ part-rest-start c =
 part-rest-end : tie.Need-part-rest-end Inv-loop μ-loop
 part-rest-end c = search needs
 
-loop-less : tie.Need-loop-less Inv-loop μ-loop
-loop-less c =
-    let b = c .before .before .before .before .before .before .before .before .before .before .before in
-    let t = b .before .before in
-    rest-less (t .before .loop .rest .now) (b .body-length .result) (b .body-length .ensures .0)
-    (run-fits (t .before .loop .rest .now) (t .loop-test .taken) (t .before .loop .inv .2) (b .body-length .result) (b .body-length .ensures .0))
-
 loop-again : tie.Need-loop-again Inv-loop μ-loop
 loop-again c =
     let k = c .before .before .before .before .before .before in
@@ -85,6 +78,13 @@ loop-again c =
           (board (l .current) (l .memory) (l .serial)) (f .cycle-of .result) (f .cycle-of .ensures) _ (k .cycle .ensures)
           ∙ l .inv .3,
     )
+
+loop-less : tie.Need-loop-less Inv-loop μ-loop
+loop-less c =
+    let b = c .before .before .before .before .before .before .before .before .before .before .before in
+    let t = b .before .before in
+    rest-less (t .before .loop .rest .now) (b .body-length .result) (b .body-length .ensures .0)
+    (run-fits (t .before .loop .rest .now) (t .loop-test .taken) (t .before .loop .inv .2) (b .body-length .result) (b .body-length .ensures .0))
 
 same-length : tie.Need-same-length Inv-loop μ-loop
 same-length c = c .before .loop .inv .0

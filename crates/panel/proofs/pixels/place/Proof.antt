@@ -10,14 +10,14 @@ use Rattle.panel.proofs.pixels.place.Tie as tie
 pixel-requires : tie.Need-pixel-requires
 pixel-requires c κs = search needs
 
+returns : tie.Need-returns
+returns c = (ap (λ (x : ℕ). 3 * bitAnd x (c .before .args .mask)) (c .pixel .ensures), omega (arith, and-le-l (c .pixel .result) (c .before .args .mask), c .pixel .ok))
+
 cast-result : tie.Need-cast-result
 cast-result c = omega (arith, and-le-l (c .pixel .result) (c .before .args .mask), c .pixel .ok)
 
 mul-result : tie.Need-mul-result
 mul-result c = omega (arith, and-le-l (c .pixel .result) (c .before .args .mask), c .pixel .ok)
-
-returns : tie.Need-returns
-returns c = (ap (λ (x : ℕ). 3 * bitAnd x (c .before .args .mask)) (c .pixel .ensures), omega (arith, and-le-l (c .pixel .result) (c .before .args .mask), c .pixel .ok))
 
 pub place-spec : {M : Type 1} → statement M
 place-spec = tie.close (tie.spec pixel-requires cast-result mul-result returns)
