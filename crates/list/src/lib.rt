@@ -71,9 +71,10 @@ pub fn check(list: &[u8], rows: usize, loaded: bool) -> Bad
         }
         let n = field_number(rest, rows, made);
         if n != numbers::DONE {
+            let at = list.len() - rest.len();
             break Bad {
                 number: n,
-                place: (list.len() - rest.len()) as u64,
+                place: at as u64,
             };
         }
         let tag = rest[0];

@@ -24,8 +24,8 @@ loop-holds c =
 field-number-requires : tie.Need-field-number-requires Inv-loop μ-loop
 field-number-requires c κs = omega arith
 
-sub-t15 : tie.Need-sub-t15 Inv-loop μ-loop
-sub-t15 c = search needs
+sub-at : tie.Need-sub-at Inv-loop μ-loop
+sub-at c = search needs
 
 shared-slice-read-tag : tie.Need-shared-slice-read-tag Inv-loop μ-loop
 shared-slice-read-tag c = search needs
@@ -88,7 +88,7 @@ check-spec =
     μ-loop
     loop-holds
     field-number-requires
-    sub-t15
+    sub-at
     shared-slice-read-tag
     body-length-requires
     add-size

@@ -18,11 +18,11 @@ add-end c = search needs
 returns : tie.Need-returns
 returns c = sym (whole-short _ (omega (arith, c .before .body-length .ensures .0, c .if1 .taken)))
 
-headed-requires : tie.Need-headed-requires
-headed-requires c κs = search needs
-
 returns-2 : tie.Need-returns-2
 returns-2 c = c .headed .ensures ∙ sym (whole-is _ (omega (arith, c .before .before .body-length .ensures .0, c .before .if1 .left)))
+
+headed-requires : tie.Need-headed-requires
+headed-requires c κs = search needs
 
 pub whole-spec : {M : Type 1} → statement M
 whole-spec =

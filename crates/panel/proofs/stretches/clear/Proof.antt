@@ -24,13 +24,13 @@ slice-write-out c = let l = c .before in omega (arith, zeros-size (l .before .ar
 add-i : tie.Need-add-i Inv-loop μ-loop
 add-i c = search needs
 
-loop-less : tie.Need-loop-less Inv-loop μ-loop
-loop-less c = search needs
-
 loop-again : tie.Need-loop-again Inv-loop μ-loop
 loop-again c =
     let l = c .before in
     (omega (arith, c .loop-test .taken), over-zero (l .before .args .out .now) (l .loop .out) (l .loop .i) (omega (arith, l .before .pre, c .loop-test .taken)) (l .loop .inv .1))
+
+loop-less : tie.Need-loop-less Inv-loop μ-loop
+loop-less c = search needs
 
 same-length : tie.Need-same-length Inv-loop μ-loop
 same-length c = let l = c .before in zeros-size (l .before .args .out .now) (l .loop .out) (l .loop .i) (omega (arith, l .loop .inv .0, l .before .pre)) (l .loop .inv .1)

@@ -10,6 +10,9 @@ use Rattle.vram.proofs.Vram.through.Tie as tie
 length-requires : tie.Need-length-requires
 length-requires c κs = search needs
 
+returns : tie.Need-returns
+returns c = ap (λ (n : ℕ). throughIn n (c .before .before .args .self .pointer)) (c .before .length .ensures .0)
+
 rem-result : tie.Need-rem-result
 rem-result c = search needs
 
@@ -18,9 +21,6 @@ sub-result c = le-of-lt (mod-lt (c .before .before .args .self .pointer) (c .bef
 
 cast-result : tie.Need-cast-result
 cast-result c = search needs
-
-returns : tie.Need-returns
-returns c = ap (λ (n : ℕ). throughIn n (c .before .before .args .self .pointer)) (c .before .length .ensures .0)
 
 pub through-spec : {M : Type 1} → statement M
 through-spec = tie.close (tie.spec length-requires rem-result sub-result cast-result returns)
