@@ -1,6 +1,7 @@
 -- Each public call's contract, as the compiler has it, requires nothing and determines the outcome. Assumes nothing.
 use mathlib.Core.Path.{refl}
-use Rattle.numbers.specs.Determines.{Determines, by-result}
+use Rattle.numbers.specs.Determines.{Determines}
+use Rattle.numbers.specs.DeterminesLaws.{by-result}
 use Rattle.controller.proofs.Controller.fresh as fresh
 use Rattle.controller.proofs.Update.of as of
 use Rattle.controller.proofs.Controller.set_top_of_frame as set-top-of-frame

@@ -1,6 +1,7 @@
 -- Each export's contract, as the compiler has it, requires nothing and determines the outcome. Assumes nothing.
 use mathlib.Core.Path.{refl}
-use Rattle.numbers.specs.Determines.{Determines, by-result}
+use Rattle.numbers.specs.Determines.{Determines}
+use Rattle.numbers.specs.DeterminesLaws.{by-result}
 use Rattle.controller_c.proofs.linkshoar_controller_fresh as fresh
 use Rattle.controller_c.proofs.linkshoar_controller_set_top_of_frame as set-top-of-frame
 use Rattle.controller_c.proofs.linkshoar_controller_pan as pan

@@ -1,6 +1,7 @@
 -- Each export's contract, as the compiler has it, requires nothing and determines the outcome. Assumes nothing.
 use mathlib.Core.Path.{refl}
-use Rattle.numbers.specs.Determines.{Determines, by-result, by-outcome}
+use Rattle.numbers.specs.Determines.{Determines}
+use Rattle.numbers.specs.DeterminesLaws.{by-result, by-outcome}
 use Rattle.host.proofs.linkshoar_vram_fresh as vram-fresh
 use Rattle.host.proofs.linkshoar_palette_fresh as palette-fresh
 use Rattle.host.proofs.linkshoar_fill as fill

@@ -5,3 +5,4 @@ pub mod Between
 pub mod Buffer
 pub mod BufferLaws
 pub mod Determines
+pub mod DeterminesLaws

@@ -1,6 +1,7 @@
 -- Each public call's contract, as the compiler has it, requires nothing and determines the outcome. Assumes nothing.
 use mathlib.Core.Path.{refl}
-use Rattle.numbers.specs.Determines.{Determines, by-result}
+use Rattle.numbers.specs.Determines.{Determines}
+use Rattle.numbers.specs.DeterminesLaws.{by-result}
 use Rattle.refusals.proofs.fitted as fitted
 use Rattle.refusals.proofs.placed as placed
 use Rattle.refusals.proofs.write_refusal as write-refusal

@@ -1,6 +1,7 @@
 -- Each public call's contract, as the compiler has it, requires nothing and determines the outcome. Assumes nothing.
 use mathlib.Core.Path.{refl}
-use Rattle.numbers.specs.Determines.{Determines, by-result}
+use Rattle.numbers.specs.Determines.{Determines}
+use Rattle.numbers.specs.DeterminesLaws.{by-result}
 use Rattle.words.proofs.merge as merge
 use Rattle.words.proofs.strobe_mask as strobe-mask
 use Rattle.words.proofs.column_allow as column-allow
