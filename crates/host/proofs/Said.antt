@@ -1,7 +1,7 @@
 -- Each export's contract, as the compiler has it, requires nothing and determines the outcome. Assumes nothing.
-use mathlib.Core.Path.{refl}
+use mathlib.Core.Path.{refl, sym, ap, _∙_}
 use Rattle.numbers.specs.Determines.{Determines}
-use Rattle.numbers.specs.DeterminesLaws.{by-result, by-outcome}
+use Rattle.numbers.specs.DeterminesLaws.{by-result, by-outcome, by-first}
 use Rattle.host.proofs.linkshoar_vram_fresh as vram-fresh
 use Rattle.host.proofs.linkshoar_palette_fresh as palette-fresh
 use Rattle.host.proofs.linkshoar_fill as fill
@@ -19,7 +19,8 @@ pub palette-fresh-once : Determines palette-fresh.signature (λ M. palette-fresh
 palette-fresh-once = by-result refl (λ κs a v w. refl)
 
 pub fill-once : Determines fill.signature (λ M. fill.clauses)
-fill-once = by-outcome refl (λ κs a o. (o .answer, (tt, (tt, (tt, (tt, (tt, (tt, (tt, (tt, (o .buffer, tt))))))))))) (λ κs a x. refl)
+fill-once =
+    by-first refl (λ κs a x y p q. ap (λ o. (o .answer, (tt, (tt, (tt, (tt, (tt, (tt, (tt, (tt, (o .buffer, tt))))))))))) (p ∙ sym q))
 
 pub list-run-once : Determines list-run.signature (λ M. list-run.clauses)
 list-run-once = by-outcome refl (λ κs a o. (o .answer, (tt, (o .memory, (o .serial, (tt, tt)))))) (λ κs a x. refl)

@@ -8,6 +8,7 @@ ghost use Rattle.palette.specs.State.{fresh as freshPalette};
 ghost use Rattle.palette.specs.Calls.{outcome as accessedOutcome, writeCall, readCall as paletteRead};
 ghost use Rattle.planner.specs.Fill.{fill};
 ghost use Rattle.planner.specs.Calls.{outcome as filledOutcome, fillCall};
+ghost use Rattle.planner.specs.Paint.{written, Demanded};
 ghost use Rattle.host.specs.State.{handed};
 ghost use Rattle.host.specs.Calls.{listed, listCall, clockCall, shown, panelCall};
 
@@ -86,7 +87,8 @@ pub extern "C" fn linkshoar_fill(
     persistent: u32,
     list: &mut [u8],
 ) -> Filled
-    ensures { λ r. ⌜ filledOutcome r (now (list .exit)) ≡ fillCall (fill rows «first_row» «end_row» «first_column» «end_column» mask colour persistent) (now (list .entry)) ⌝ }
+    ensures outcome { λ r. ⌜ filledOutcome r (now (list .exit)) ≡ fillCall (fill rows «first_row» «end_row» «first_column» «end_column» mask colour persistent) (now (list .entry)) ⌝ }
+    ensures demand { λ r. ⌜ (r .number ≡ 0 → Demanded (fill rows «first_row» «end_row» «first_column» «end_column» mask colour persistent) r (written (filledOutcome r (now (list .exit))))) ⌝ }
 {
     planner::linkshoar_fill(
         rows,

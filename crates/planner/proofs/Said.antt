@@ -1,9 +1,9 @@
--- The public call's contract, as the compiler has it, requires nothing and determines the outcome. Assumes nothing.
-use mathlib.Core.Path.{refl}
+-- The public call's contract, as the compiler has it, requires nothing and determines the outcome: its first clause does. Assumes nothing.
+use mathlib.Core.Path.{refl, sym, ap, _∙_}
 use Rattle.numbers.specs.Determines.{Determines}
-use Rattle.numbers.specs.DeterminesLaws.{by-outcome}
+use Rattle.numbers.specs.DeterminesLaws.{by-first}
 use Rattle.planner.proofs.linkshoar_fill as planned
 
 pub fill-once : Determines planned.signature (λ M. planned.clauses)
 fill-once =
-    by-outcome refl (λ κs a o. (o .answer, (tt, (tt, (tt, (tt, (tt, (tt, (tt, (tt, (o .buffer, tt))))))))))) (λ κs a x. refl)
+    by-first refl (λ κs a x y p q. ap (λ o. (o .answer, (tt, (tt, (tt, (tt, (tt, (tt, (tt, (tt, (o .buffer, tt))))))))))) (p ∙ sym q))

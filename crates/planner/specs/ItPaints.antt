@@ -1,28 +1,26 @@
 -- Demand 3, first part: it paints. For every fill that is not refused, from every board that the rules allow with the rows fitted and
--- not persistent, the bytes written are a list that `list` accepts, and running it leaves the memory that the rectangle asks for. The
--- colour register holds the colour where blocks were used and is else as it was; mask register, persistence, serial state and serial
--- register are as they were. Assumes nothing.
+-- not persistent, the bytes written are a list that `list` accepts, and running it leaves the memory that the rectangle asks for and
+-- all else as `afterFill` says. Assumes nothing.
 use mathlib.Core.Path.{_≡_, refl, sym, ap, _∙_}
-use mathlib.Core.Bool.{true, false, cond}
+use mathlib.Core.Bool.{true, false}
 use mathlib.Core.List.{List}
 use Prim.Native.Nat.{ℕ}
 use lib.ListN.{length}
 use Rattle.vram.specs.declared.Vram.{Vram}
-use Rattle.vram.specs.State.{withColour, ruled}
-use Rattle.vram.specs.Board.{Board, board}
+use Rattle.vram.specs.State.{ruled}
+use Rattle.vram.specs.Board.{Board}
 use Rattle.vram.specs.RuleLaws.{registers-ruled}
 use Rattle.list.specs.Meaning.{bad, Outcome, gives, runCall}
 use Rattle.list.specs.CallLaws.{call-given}
-use Rattle.planner.specs.Fill.{Fill, usesBlocks}
+use Rattle.planner.specs.Fill.{Fill}
 use Rattle.planner.specs.Calls.{fillCall}
-use Rattle.planner.specs.Paint.{painted, written, Wide, Memory, Start, from, Paints}
+use Rattle.planner.specs.Paint.{afterFill, written, Wide, Memory, Start, from, Paints}
 use Rattle.planner.specs.PlanRuns.{list-runs}
 use Rattle.planner.specs.WrittenLaws.{accepted-asked, accepted-list}
 use Rattle.planner.specs.CallLaws.{asked-sound}
 
 pub it-paints : (f : Fill) (out : List ℕ) → Wide f → fillCall f out .answer .number ≡ 0 → (b : Board) → Start (f .rows) b
-    → runCall (written (fillCall f out)) b
-    ≡ gives (bad 0 0) (board (withColour (b .state) (cond (usesBlocks f) (f .colour) (b .state .colour))) (painted f (b .memory)) (b .serial))
+    → runCall (written (fillCall f out)) b ≡ gives (bad 0 0) (afterFill f b)
 it-paints f out wide z b start =
     ap (λ (list : List ℕ). runCall list b) (accepted-list f out z) ∙ list-runs f (asked-sound f (accepted-asked f out z)) wide b start
 
@@ -38,8 +36,7 @@ fill-paints f out wide z s r rule register =
     }
   where
     ran : (colour mask : ℕ) (m : List ℕ) → Memory (f .rows) m
-        → runCall (written (fillCall f out)) (from s colour mask m r)
-        ≡ gives (bad 0 0) (board (withColour (from s colour mask m r .state) (cond (usesBlocks f) (f .colour) colour)) (painted f m) r)
+        → runCall (written (fillCall f out)) (from s colour mask m r) ≡ gives (bad 0 0) (afterFill f (from s colour mask m r))
     ran colour mask m fits =
         it-paints f out wide z (from s colour mask m r)
         (record { rule = registers-ruled s colour mask false ∙ rule; memory = fits; register = register; plain = refl })

@@ -19,4 +19,5 @@ pub mod Least
 pub mod ItPaints
 pub mod ItIsShortest
 pub mod ItCounts
+pub mod AsDemanded
 pub mod ClosedForm

@@ -1,5 +1,5 @@
 -- What a fill's list is to do, and from where: demand 3. Assumes nothing.
-use Prim.Native.Nat.{ℕ, suc, _*_, _<_}
+use Prim.Native.Nat.{ℕ, suc, _*_, _<_, _≤_}
 use mathlib.Core.Path.{_≡_}
 use mathlib.Core.Bool.{true, false, cond}
 use mathlib.Core.List.{List, [], _∷_}
@@ -9,8 +9,9 @@ use Rattle.words.specs.Word.{merged}
 use Rattle.vram.specs.declared.Vram.{Vram}
 use Rattle.vram.specs.State.{withColour, withMask, ruled}
 use Rattle.vram.specs.Board.{Board, board}
-use Rattle.list.specs.Meaning.{verdictOf, runCall}
-use Rattle.planner.specs.Fill.{Fill, inside}
+use Rattle.list.specs.Meaning.{bad, gives, verdictOf, runCall, countOf}
+use Rattle.planner.specs.declared.Filled.{Filled}
+use Rattle.planner.specs.Fill.{Fill, inside, usesBlocks}
 use Rattle.planner.specs.Calls.{Outcome}
 
 -- ---- what the rectangle asks for
@@ -23,6 +24,12 @@ mapAt g at (w ∷ m) = g at w ∷ mapAt g (suc at) m
 -- the rectangle's bits of M equal to the colour's, every other bit as it was (`painted-bit`)
 abbrev pub painted : Fill → List ℕ → List ℕ
 painted f m = mapAt (λ a w. cond (inside f a) (merged w (f .colour) (bit (f .mask))) w) 0 m
+
+-- the board afterwards: the colour register holds the colour where blocks were used and is else as it was; mask register, persistence,
+-- serial state and serial register are as they were
+abbrev pub afterFill : Fill → Board → Board
+afterFill f b =
+    board (withColour (b .state) (cond (usesBlocks f) (f .colour) (b .state .colour))) (painted f (b .memory)) (b .serial)
 
 -- the bytes that a fill has written
 abbrev pub written : Outcome → List ℕ
@@ -59,3 +66,14 @@ pub record Paints (f : Fill) (s : Vram) (r list : List ℕ) : Type 0 where
       → verdictOf list (from s colour mask m r) .number ≡ 0
   pub paints : (colour mask : ℕ) (m : List ℕ) → colour < 65536 → mask < 65536 → Memory (f .rows) m
       → runCall list (from s colour mask m r) .after .memory ≡ painted f m
+
+-- ---- demand 3: what is owed of a fill's answer and of the list of bytes that it has written
+
+pub record Demanded (f : Fill) (r : Filled) (list : List ℕ) : Type 0 where
+  -- it paints: the list is accepted, and running it leaves what the rectangle asks for
+  pub paints : (b : Board) → Start (f .rows) b → runCall list b ≡ gives (bad 0 0) (afterFill f b)
+  -- no list that paints has fewer cycles than are answered
+  pub shortest : (s : Vram) (serial other : List ℕ) → Paints f s serial other → r .cycles ≤ countOf other
+  -- it counts: the cycles answered are the list's fields, and the bytes answered its length
+  pub cycles : r .cycles ≡ countOf list
+  pub bytes : r .bytes ≡ length list

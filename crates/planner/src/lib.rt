@@ -5,6 +5,7 @@ ghost use mathlib.Core.Path.{_≡_};
 ghost use Prim.Native.Nat.{_≤_, _*_};
 ghost use Rattle.planner.specs.Fill.{fill};
 ghost use Rattle.planner.specs.Calls.{outcome, askedRefusal, fillCall};
+ghost use Rattle.planner.specs.Paint.{written, Demanded};
 
 mod columns;
 mod lists;
@@ -55,6 +56,7 @@ fn refusal(
 }
 
 // A fill's list at the start of the buffer. Persistent: 0 no, any other number yes.
+// Where it answers 0, the list is as demand 3 asks: it paints, no list that paints is shorter, and the counts are its own.
 #[no_mangle]
 pub extern "C" fn linkshoar_fill(
     rows: u32,
@@ -67,7 +69,8 @@ pub extern "C" fn linkshoar_fill(
     persistent: u32,
     list: &mut [u8],
 ) -> Filled
-    ensures { λ r. ⌜ outcome r (now (list .exit)) ≡ fillCall (fill rows «first_row» «end_row» «first_column» «end_column» mask colour persistent) (now (list .entry)) ⌝ }
+    ensures outcome { λ r. ⌜ outcome r (now (list .exit)) ≡ fillCall (fill rows «first_row» «end_row» «first_column» «end_column» mask colour persistent) (now (list .entry)) ⌝ }
+    ensures demand { λ r. ⌜ (r .number ≡ 0 → Demanded (fill rows «first_row» «end_row» «first_column» «end_column» mask colour persistent) r (written (outcome r (now (list .exit))))) ⌝ }
 {
     let n = refusal(
         rows,

@@ -4,6 +4,7 @@ use mathlib.Core.Path.{_≡_, sym, _∙_}
 use native.Mathlib.Omega.{arith}
 use Rattle.planner.specs.Fill.{fill}
 use Rattle.planner.specs.Calls.{askedRefusal}
+use Rattle.planner.specs.AsDemanded.{with-demand}
 use Rattle.planner.specs.CallLaws.{asked-any, asked-sound, fill-refuses, fill-nothing, some-columns, fill-words, fill-blocks}
 use Rattle.planner.proofs.linkshoar_fill.Statement.{statement}
 use Rattle.planner.proofs.linkshoar_fill.Tie as tie
@@ -13,9 +14,12 @@ refusal-requires c κs = search needs
 
 returns : tie.Need-returns
 returns c =
-    let a = c .before .before .before .args in
-    fill-refuses (fill (a .rows) (a .first-row) (a .end-row) (a .first-column) (a .end-column) (a .mask) (a .colour) (a .persistent)) (a .list .now) (c .before .refusal .result)
-    (asked-any (a .rows) (a .first-row) (a .end-row) (a .first-column) (a .end-column) (a .mask) (a .colour) (a .persistent) (c .before .refusal .result) (c .before .refusal .ensures)) (c .if1 .taken)
+    let b = c .before .before .before in
+    let a = b .args in
+    let f = fill (a .rows) (a .first-row) (a .end-row) (a .first-column) (a .end-column) (a .mask) (a .colour) (a .persistent) in
+    with-demand f (a .list .now) (b .fits .mask .fits) (b .fits .colour .fits)
+    (fill-refuses f (a .list .now) (c .before .refusal .result)
+    (asked-any (a .rows) (a .first-row) (a .end-row) (a .first-column) (a .end-column) (a .mask) (a .colour) (a .persistent) (c .before .refusal .result) (c .before .refusal .ensures)) (c .if1 .taken))
 
 sub-height : tie.Need-sub-height
 sub-height c =
@@ -32,10 +36,12 @@ sub-width c =
 returns-2 : tie.Need-returns-2
 returns-2 c =
     let i = c .before in
-    let a = i .before .before .before .args in
+    let b = i .before .before .before in
+    let a = b .args in
     let f = fill (a .rows) (a .first-row) (a .end-row) (a .first-column) (a .end-column) (a .mask) (a .colour) (a .persistent) in
     let z : askedRefusal f ≡ 0 = sym (asked-any (a .rows) (a .first-row) (a .end-row) (a .first-column) (a .end-column) (a .mask) (a .colour) (a .persistent) (i .before .refusal .result) (i .before .refusal .ensures)) ∙ i .if1 .left in
-    fill-nothing f (a .list .now) z (c .if2 .taken)
+    with-demand f (a .list .now) (b .fits .mask .fits) (b .fits .colour .fits)
+    (fill-nothing f (a .list .now) z (c .if2 .taken))
 
 add-across : tie.Need-add-across
 add-across c =
@@ -85,12 +91,14 @@ same-length c = search needs
 returns-3 : tie.Need-returns-3
 returns-3 c =
     let i = c .before .before .before .before .before .before .before .before in
-    let a = i .before .before .before .args in
+    let b = i .before .before .before in
+    let a = b .args in
     let f = fill (a .rows) (a .first-row) (a .end-row) (a .first-column) (a .end-column) (a .mask) (a .colour) (a .persistent) in
     let z : askedRefusal f ≡ 0 = sym (asked-any (a .rows) (a .first-row) (a .end-row) (a .first-column) (a .end-column) (a .mask) (a .colour) (a .persistent) (i .before .refusal .result) (i .before .refusal .ensures)) ∙ i .if1 .left in
     let t = c .before .before .before .before in
-    c .before .before .put-words .ensures
-    ∙ fill-words f (a .list .now) z (t .before .before .before .if2 .left) (t .before .before .area .result) (t .before .area2 .result) (t .before .before .area .ensures .0) (t .before .area2 .ensures .0) (omega arith)
+    with-demand f (a .list .now) (b .fits .mask .fits) (b .fits .colour .fits)
+    (c .before .before .put-words .ensures
+    ∙ fill-words f (a .list .now) z (t .before .before .before .if2 .left) (t .before .before .area .result) (t .before .area2 .result) (t .before .before .area .ensures .0) (t .before .area2 .ensures .0) (omega arith))
 
 same-length-2 : tie.Need-same-length-2
 same-length-2 c = search needs
@@ -98,12 +106,14 @@ same-length-2 c = search needs
 returns-4 : tie.Need-returns-4
 returns-4 c =
     let i = c .before .before .before .before .before .before .before .before in
-    let a = i .before .before .before .args in
+    let b = i .before .before .before in
+    let a = b .args in
     let f = fill (a .rows) (a .first-row) (a .end-row) (a .first-column) (a .end-column) (a .mask) (a .colour) (a .persistent) in
     let z : askedRefusal f ≡ 0 = sym (asked-any (a .rows) (a .first-row) (a .end-row) (a .first-column) (a .end-column) (a .mask) (a .colour) (a .persistent) (i .before .refusal .result) (i .before .refusal .ensures)) ∙ i .if1 .left in
     let t = c .before .before .before .before in
-    c .before .before .put-blocks .ensures
-    ∙ fill-blocks f (a .list .now) z (t .before .before .before .if2 .left) (t .before .before .area .result) (t .before .area2 .result) (t .before .before .area .ensures .0) (t .before .area2 .ensures .0) (omega arith)
+    with-demand f (a .list .now) (b .fits .mask .fits) (b .fits .colour .fits)
+    (c .before .before .put-blocks .ensures
+    ∙ fill-blocks f (a .list .now) z (t .before .before .before .if2 .left) (t .before .before .area .result) (t .before .area2 .result) (t .before .before .area .ensures .0) (t .before .area2 .ensures .0) (omega arith))
 
 pub linkshoar-fill-spec : {M : Type 1} → statement M
 linkshoar-fill-spec =
