@@ -1,2 +1,2 @@
 -- What belongs to no one function.
-pub mod Said
+pub mod Once

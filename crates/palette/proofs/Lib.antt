@@ -1,3 +1,3 @@
 -- What belongs to no one function.
-pub mod Said
+pub mod Once
 pub mod Walks

@@ -1,4 +1,4 @@
 -- What belongs to no one function.
 pub mod Stretch
 pub mod Stores
-pub mod Said
+pub mod Once

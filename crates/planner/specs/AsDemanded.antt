@@ -6,7 +6,7 @@ use Rattle.planner.specs.declared.Filled.{Filled}
 use Rattle.planner.specs.Fill.{Fill}
 use Rattle.planner.specs.Calls.{Outcome, outcome, fillCall}
 use Rattle.planner.specs.Paint.{Wide, written, Demanded}
-use Rattle.planner.specs.ItPaints.{it-paints}
+use Rattle.planner.specs.ItPaints.{it-paints, fill-paints}
 use Rattle.planner.specs.ItIsShortest.{it-is-shortest}
 use Rattle.planner.specs.ItCounts.{it-counts}
 
@@ -17,6 +17,7 @@ pub as-demanded : (f : Fill) (out : List ℕ) → Wide f → AsDemanded f (fillC
 as-demanded f out wide z =
     record {
       paints = it-paints f out wide z;
+      compared = fill-paints f out wide z;
       shortest = it-is-shortest f out wide z;
       cycles = it-counts f out z .0;
       bytes = it-counts f out z .1;

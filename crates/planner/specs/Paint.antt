@@ -72,6 +72,8 @@ pub record Paints (f : Fill) (s : Vram) (r list : List ℕ) : Type 0 where
 pub record Demanded (f : Fill) (r : Filled) (list : List ℕ) : Type 0 where
   -- it paints: the list is accepted, and running it leaves what the rectangle asks for
   pub paints : (b : Board) → Start (f .rows) b → runCall list b ≡ gives (bad 0 0) (afterFill f b)
+  -- so it is one of those with which it is compared, for every serial state that the rules allow
+  pub compared : (s : Vram) (serial : List ℕ) → ruled s ≡ true → length serial ≡ 256 → Paints f s serial list
   -- no list that paints has fewer cycles than are answered
   pub shortest : (s : Vram) (serial other : List ℕ) → Paints f s serial other → r .cycles ≤ countOf other
   -- it counts: the cycles answered are the list's fields, and the bytes answered its length

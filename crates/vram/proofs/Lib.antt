@@ -3,4 +3,4 @@ pub mod Masks
 pub mod Moves
 pub mod Arms
 pub mod Clocks
-pub mod Said
+pub mod Once

@@ -1,6 +1,7 @@
 -- Each public call's contract, as the compiler has it, requires nothing and determines the outcome. Assumes nothing.
 use mathlib.Core.Path.{refl}
-use Rattle.numbers.specs.Determines.{Determines, by-result, by-outcome}
+use Rattle.numbers.specs.Determines.{Determines}
+use Rattle.numbers.specs.DeterminesLaws.{by-result, by-outcome}
 use Rattle.list.proofs.head_of as head-of
 use Rattle.list.proofs.check as check
 use Rattle.list.proofs.run as run
