@@ -64,33 +64,64 @@ static int body_bytes(int tag)
     }
 }
 
-/* What refuses the field at the start of these bytes. */
-static uint32_t field_number(const uint8_t *f, size_t left, size_t rows, int loaded)
+model_field model_field_read(const uint8_t *f)
 {
-    if (left < 3 || body_bytes(f[0]) < 0 || pair(f + 1) != (unsigned)body_bytes(f[0]) || left - 3 < pair(f + 1))
-        return 4;
+    model_field r;
     const uint8_t *b = f + 3;
-    switch (f[0]) {
+    memset(&r, 0, sizeof r);
+    r.tag = f[0];
+    r.length = pair(f + 1);
+    switch (r.tag) {
     case 1: case 2:
-        if (pair(b) >= rows)
+        r.row = pair(b);
+        r.column = pair(b + 2);
+        r.data = pair(b + 4);
+        r.masking = b[6];
+        r.mask = pair(b + 7);
+        r.strobes = b[9];
+        break;
+    case 3: case 4:
+        r.data = pair(b);
+        r.strobes = b[2];
+        break;
+    case 6: case 7:
+        r.row = pair(b);
+        r.half = b[2];
+        r.tap = b[3];
+        break;
+    default:
+        break;
+    }
+    return r;
+}
+
+/* What refuses the field at the start of these bytes. */
+static uint32_t field_number(const uint8_t *bytes, size_t left, size_t rows, int loaded)
+{
+    if (left < 3 || body_bytes(bytes[0]) < 0 || pair(bytes + 1) != (unsigned)body_bytes(bytes[0]) || left - 3 < pair(bytes + 1))
+        return 4;
+    model_field f = model_field_read(bytes);
+    switch (f.tag) {
+    case 1: case 2:
+        if (f.row >= rows)
             return 5;
-        if (pair(b + 2) > 511)
+        if (f.column > 511)
             return 6;
-        if (b[9] < 1 || b[9] > 3)
+        if (f.strobes < 1 || f.strobes > 3)
             return 7;
-        if (b[6] > 1 || (b[6] == 0 && pair(b + 7) != 0))
+        if (f.masking > 1 || (f.masking == 0 && f.mask != 0))
             return 8;
         return 0;
     case 3: case 4:
-        return b[2] < 1 || b[2] > 3 ? 7 : 0;
+        return f.strobes < 1 || f.strobes > 3 ? 7 : 0;
     case 6:
-        if (pair(b) >= rows)
+        if (f.row >= rows)
             return 5;
-        return b[2] > 1 ? 9 : 0;
+        return f.half > 1 ? 9 : 0;
     case 7:
-        if (pair(b) >= rows)
+        if (f.row >= rows)
             return 5;
-        if (b[2] > 1 || b[3] > 127)
+        if (f.half > 1 || f.tap > 127)
             return 9;
         return loaded ? 0 : 10;
     default:
@@ -99,20 +130,24 @@ static uint32_t field_number(const uint8_t *f, size_t left, size_t rows, int loa
 }
 
 /* Whether strobes and mask in force let bit i through. */
-static int let_through(linkshoar_vram s, int masking, unsigned mask, int strobes, int i)
+static int let_through(linkshoar_vram s, model_field f, int i)
 {
-    unsigned force = 0xFFFF;
-    if (masking == 1)
-        force = s.persistent ? s.mask : mask;
+    unsigned force = 0xFFFF, strobes = f.strobes;
+    if (f.masking == 1)
+        force = s.persistent ? s.mask : f.mask;
 #if FAULT == 2 /* the mask given with the cycle used while the mask is persistent */
-    if (masking == 1)
-        force = mask;
+    if (f.masking == 1)
+        force = f.mask;
 #endif
 #if FAULT == 3 /* plain writes masked in persistent mode */
-    if (masking == 0 && s.persistent)
+    if (f.masking == 0 && s.persistent)
         force = s.mask;
 #endif
-    return bit((unsigned)strobes, i / 8) && bit(force, i);
+#if FAULT == 6 /* byte strobes ignored on block writes: version one */
+    if (f.tag == 2)
+        strobes = 3;
+#endif
+    return bit(strobes, i / 8) && bit(force, i);
 }
 
 static void put_bit(uint16_t *word, int i, int value)
@@ -120,39 +155,34 @@ static void put_bit(uint16_t *word, int i, int value)
     *word = (uint16_t)((*word & ~(1u << i)) | (unsigned)value << i);
 }
 
-static void run_field(linkshoar_vram *s, uint16_t *memory, uint16_t *serial, const uint8_t *f)
+static void run_field(linkshoar_vram *s, uint16_t *memory, uint16_t *serial, model_field f)
 {
-    const uint8_t *b = f + 3;
-    switch (f[0]) {
+    switch (f.tag) {
     case 1:
         for (int i = 0; i < 16; i++)
-            if (let_through(*s, b[6], pair(b + 7), b[9], i))
-                put_bit(&memory[512 * pair(b) + pair(b + 2)], i, bit(pair(b + 4), i));
+            if (let_through(*s, f, i))
+                put_bit(&memory[512 * f.row + f.column], i, bit(f.data, i));
         break;
     case 2:
         for (int j = 0; j < 4; j++)
             for (int i = 0; i < 16; i++) {
-                int column = bit(pair(b + 4), 4 * (i / 4) + j);
+                int column = bit(f.data, 4 * (i / 4) + j);
 #if FAULT == 1 /* one four-bit column mask for all quads */
-                column = bit(pair(b + 4), j);
+                column = bit(f.data, j);
 #endif
-#if FAULT == 6 /* byte strobes ignored on block writes: version one */
-                if (column && let_through(*s, b[6], pair(b + 7), 3, i))
-#else
-                if (column && let_through(*s, b[6], pair(b + 7), b[9], i))
-#endif
-                    put_bit(&memory[512 * pair(b) + pair(b + 2) / 4 * 4 + (unsigned)j], i, bit(s->colour, i));
+                if (column && let_through(*s, f, i))
+                    put_bit(&memory[512 * f.row + f.column / 4 * 4 + (unsigned)j], i, bit(s->colour, i));
             }
         break;
     case 3:
         for (int i = 0; i < 16; i++)
-            if (bit(b[2], i / 8))
-                put_bit(&s->colour, i, bit(pair(b), i));
+            if (bit(f.strobes, i / 8))
+                put_bit(&s->colour, i, bit(f.data, i));
         break;
     case 4:
         for (int i = 0; i < 16; i++)
-            if (bit(b[2], i / 8))
-                put_bit(&s->mask, i, bit(pair(b), i));
+            if (bit(f.strobes, i / 8))
+                put_bit(&s->mask, i, bit(f.data, i));
         s->persistent = 1;
         break;
     case 5:
@@ -160,9 +190,9 @@ static void run_field(linkshoar_vram *s, uint16_t *memory, uint16_t *serial, con
         break;
     case 6:
         for (unsigned i = 0; i < 256; i++)
-            serial[i] = memory[512 * pair(b) + 256u * b[2] + i];
+            serial[i] = memory[512 * f.row + 256 * f.half + i];
         s->loaded = 1;
-        s->pointer = b[3];
+        s->pointer = (uint8_t)f.tap;
         s->waiting = 0;
         s->tap = 0;
         break;
@@ -173,9 +203,9 @@ static void run_field(linkshoar_vram *s, uint16_t *memory, uint16_t *serial, con
             break;
 #endif
         for (unsigned i = 0; i < 128; i++)
-            serial[128 * h + i] = memory[512 * pair(b) + 256u * b[2] + 128 * h + i];
+            serial[128 * h + i] = memory[512 * f.row + 256 * f.half + 128 * h + i];
         s->waiting = 1;
-        s->tap = (uint8_t)(128 * h + b[3]);
+        s->tap = (uint8_t)(128 * h + f.tap);
     }
     }
 }
@@ -205,7 +235,7 @@ linkshoar_ran model_list_run(linkshoar_vram state, uint16_t *memory, size_t word
             loaded = 1;
     }
     for (size_t at = 0; at < length; at += 3 + pair(list + at + 1))
-        run_field(&r.state, memory, serial, list + at);
+        run_field(&r.state, memory, serial, model_field_read(list + at));
     return r;
 }
 

@@ -10,6 +10,12 @@
 #define FAULT 0
 #endif
 
+/* A field of a list by its numbers; data is the column mask of a block write, and what the tag's body does not have is 0. */
+typedef struct {
+    unsigned tag, length, row, column, data, masking, mask, strobes, half, tap;
+} model_field;
+
+model_field model_field_read(const uint8_t *field);
 linkshoar_vram model_vram_fresh(void);
 linkshoar_palette model_palette_fresh(void);
 linkshoar_filled model_fill(uint32_t rows, uint32_t first_row, uint32_t end_row, uint32_t first_column, uint32_t end_column, uint16_t mask,
