@@ -104,7 +104,8 @@ static void colour(linkshoar_palette *palette, uint8_t entry, uint8_t red, uint8
 {
     const uint8_t values[4] = {entry, red, green, blue};
     for (uint32_t i = 0; i < 4; i++) {
-        linkshoar_accessed done = linkshoar_palette_write(*palette, table, sizeof table, i != 0, values[i]);
+        uint32_t select = i ? LINKSHOAR_SELECT_COLOUR : LINKSHOAR_SELECT_ADDRESS;
+        linkshoar_accessed done = linkshoar_palette_write(*palette, table, sizeof table, select, values[i]);
         must(done.number, "palette");
         *palette = done.state;
     }
@@ -113,17 +114,17 @@ static void colour(linkshoar_palette *palette, uint8_t entry, uint8_t red, uint8
 static void show(linkshoar_palette palette)
 {
     uint8_t out[3 * LINKSHOAR_SERIAL_WORDS];
-    for (uint32_t row = 0; row < ROWS; row++)
-        for (uint32_t half = 0; half < 2; half++) {
-            const uint8_t transfer[7] = {6, 0, 4, (uint8_t)(row / 256), (uint8_t)row, (uint8_t)half, 0};
-            linkshoar_ran ran = linkshoar_list_run(state, memory, ROWS * COLUMNS, serial, LINKSHOAR_SERIAL_WORDS, transfer, sizeof transfer);
+    for (uint16_t row = 0; row < ROWS; row++)
+        for (uint8_t half = 0; half < 2; half++) {
+            size_t bytes = linkshoar_put_full_transfer(list, row, half, 0);
+            linkshoar_ran ran = linkshoar_list_run(state, memory, ROWS * COLUMNS, serial, LINKSHOAR_SERIAL_WORDS, list, bytes);
             must(ran.number, "transfer");
             linkshoar_shown shown = linkshoar_panel_run(ran.state, serial, LINKSHOAR_SERIAL_WORDS, palette, table, sizeof table,
                                                         LINKSHOAR_SERIAL_WORDS, 0, out, sizeof out);
             must(shown.number, "panel");
             state = shown.state;
             for (size_t i = 0; i < sizeof out; i++) /* six bits to eight */
-                ((uint8_t *)picture[row])[256 * 3 * half + i] = (uint8_t)(4 * out[i] + out[i] / 16);
+                ((uint8_t *)picture[row])[sizeof out * half + i] = (uint8_t)(4 * out[i] + out[i] / 16);
         }
 }
 

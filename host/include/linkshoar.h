@@ -2,11 +2,22 @@
  * the counters of an Am8150.
  *
  * The caller holds the states and lends the memory; nothing is allocated, nothing is kept, and no call blocks. A state goes in by value
- * and the new one comes back in the answer. Every call takes every input: what it cannot do it refuses with a number, and a refusal
- * changes nothing that was lent and hands the state back as it came.
+ * and the new one comes back in the answer: keep it, since the next call takes it. Every call takes every input: what it cannot do it
+ * refuses with a number, and a refusal changes nothing that was lent, hands the state back as it came and answers zeros
+ * besides, but for the place in a list.
  *
- * What C owes: lengths that are true, slices that do not overlap, and yes-or-no bytes of 0 or 1 inside a state (a state with another is
- * refused with 1). A yes-or-no argument takes any number. Null with length 0 is a lawful empty slice.
+ * What C owes: lengths that are true, in words or bytes as the pointer's type is; slices that do not overlap; yes-or-no bytes of 0 or 1
+ * inside a state (a state with another is refused with 1). A yes-or-no argument takes any number. Null with length 0 is a lawful empty
+ * slice; but a lent linkshoar_palette * is never null, and it stands apart from the table.
+ *
+ * Answers are compared member by member: the bytes between the members of a struct are not determined.
+ *
+ * What is lent:
+ *   memory   512 words to a row, 1 to 512 rows: row r, column c is word 512 * r + c. Its length says how many rows are fitted.
+ *   serial   the serial register, 256 words: transfers copy half a row of the memory to it, clocks read it.
+ *   table    the palette's 256 entries, 768 bytes: entry e has red at 3 * e, green at 3 * e + 1, blue at 3 * e + 2. The low six bits of
+ *            a byte are read, 0 to 63. The caller may write it in place, or by linkshoar_palette_write as the chip is written.
+ *   list     cycles as bytes: see "Lists" below.
  */
 #ifndef LINKSHOAR_H
 #define LINKSHOAR_H
@@ -18,7 +29,7 @@
 extern "C" {
 #endif
 
-#define LINKSHOAR_VERSION "4.1.0"
+#define LINKSHOAR_VERSION "4.2.0"
 
 /* The numbers given back. Where several apply the lowest is given; in a list the first bad field wins, then its lowest number. */
 enum {
@@ -49,7 +60,16 @@ enum {
     LINKSHOAR_SERIAL_WORDS = 256,   /* the serial register */
     LINKSHOAR_TABLE_BYTES = 768,    /* the palette's table: red, green, blue of 256 entries */
     LINKSHOAR_LIST_BYTES = 851974,  /* the longest list that a fill writes */
+    LINKSHOAR_FIELD_BYTES = 13,     /* the longest field of a list */
     LINKSHOAR_ADDRESSES = 262144    /* the Am8150's addresses: 18 bits */
+};
+
+/* The palette's selects. */
+enum {
+    LINKSHOAR_SELECT_ADDRESS = 0,     /* the address; a write sets the phase to 0 */
+    LINKSHOAR_SELECT_COLOUR = 1,      /* red, green or blue, as the phase says, and the phase moves on; a write of blue sets the entry */
+    LINKSHOAR_SELECT_PIXEL_MASK = 2,  /* the pixel mask */
+    LINKSHOAR_SELECT_READ_ADDRESS = 3 /* written only: as select 0, then the colour registers take the entry, so that it can be read */
 };
 
 /* How far a pan of the Am8150 reaches, in words. */
@@ -65,19 +85,27 @@ enum {
     LINKSHOAR_UPDATE_INTERLEAVED = 2 /* between two words; not together with page mode */
 };
 
-/* The video RAM's registers. waiting: 0 none, 1 tap; where nothing waits tap is 0. */
+/* The video RAM's registers. */
 typedef struct {
-    uint16_t colour, mask;
-    uint8_t persistent, loaded, pointer, waiting, tap;
+    uint16_t colour, mask; /* colour: what a block write paints; mask: in force for masked writes while it is persistent */
+    uint8_t persistent;    /* 1 from a mask load to a reset refresh */
+    uint8_t loaded;        /* 1 once a full transfer has been made */
+    uint8_t pointer;       /* the place in the serial register that the next clock reads */
+    uint8_t waiting, tap;  /* waiting: 1 where a split transfer's tap waits for the end of the pointer's half; else both are 0 */
 } linkshoar_vram;
 
 /* The palette's registers. */
 typedef struct {
-    uint8_t address, phase, red, green, blue, mask;
+    uint8_t address;          /* the entry that the next colour goes to; 255 is followed by 0 */
+    uint8_t phase;            /* whose turn it is: 0 red, 1 green, 2 blue */
+    uint8_t red, green, blue; /* 0 to 63 */
+    uint8_t mask;             /* the pixel mask: a pixel is ANDed with it */
 } linkshoar_palette;
 
+/* In every answer `number` is one of the numbers above, and `state` the state to go on with. */
+
 typedef struct {
-    uint32_t number, bytes, cycles;
+    uint32_t number, bytes, cycles; /* how many bytes the list has, and how many fields */
 } linkshoar_filled;
 
 typedef struct {
@@ -133,42 +161,181 @@ typedef struct {
     uint8_t bank, row, column; /* the address of the word fetched: bits 17 and 16, 15 to 8, 7 to 0 */
 } linkshoar_fetched;
 
+/* ---- Lists
+ *
+ * A list is fields, one after the other: a tag (one byte), the length of the body (two bytes), the body. Numbers of two bytes are high byte
+ * first.
+ *
+ *   tag                 length   body, with the bytes that each number takes
+ *   1  word write       10       row 2, column 2, data 2, masking 1, mask 2, strobes 1
+ *   2  block write      10       row 2, column 2, column mask 2, masking 1, mask 2, strobes 1
+ *   3  load colour       3       data 2, strobes 1
+ *   4  load mask         3       data 2, strobes 1
+ *   5  reset refresh     0
+ *   6  full transfer     4       row 2, half 1, tap 1
+ *   7  split transfer    4       row 2, half 1, tap 1
+ *
+ * row: below the rows fitted. column: 0 to 511. strobes: the bytes of the word that are written, one of LINKSHOAR_STROBES_. masking: one of
+ * LINKSHOAR_MASKING_. mask: the bits that a masked write may change, unless the mask register is persistent and so in force instead; 0 for
+ * a plain write. half: of the row, 0 columns 0 to 255, 1 columns 256 to 511. tap: a place, 0 to 255; of a split transfer 0 to 127. */
+enum {
+    LINKSHOAR_TAG_WORD_WRITE = 1,
+    LINKSHOAR_TAG_BLOCK_WRITE = 2,
+    LINKSHOAR_TAG_LOAD_COLOUR = 3,
+    LINKSHOAR_TAG_LOAD_MASK = 4,
+    LINKSHOAR_TAG_RESET_REFRESH = 5,
+    LINKSHOAR_TAG_FULL_TRANSFER = 6,
+    LINKSHOAR_TAG_SPLIT_TRANSFER = 7
+};
+
+enum {
+    LINKSHOAR_STROBES_LOW = 1, /* bits 0 to 7 */
+    LINKSHOAR_STROBES_HIGH = 2,
+    LINKSHOAR_STROBES_BOTH = 3
+};
+
+enum {
+    LINKSHOAR_MASKING_PLAIN = 0,
+    LINKSHOAR_MASKING_MASKED = 1
+};
+
+/* What the seven functions below have in common. */
+static inline void linkshoar_put_pair(uint8_t *at, uint16_t number)
+{
+    at[0] = (uint8_t)(number >> 8);
+    at[1] = (uint8_t)number;
+}
+
+static inline size_t linkshoar_put_head(uint8_t *at, uint8_t tag, uint8_t length)
+{
+    at[0] = tag;
+    linkshoar_put_pair(at + 1, length);
+    return 3u + length;
+}
+
+static inline size_t linkshoar_put_write(uint8_t *at, uint8_t tag, uint16_t row, uint16_t column, uint16_t data, uint8_t masking,
+                                         uint16_t mask, uint8_t strobes)
+{
+    linkshoar_put_pair(at + 3, row);
+    linkshoar_put_pair(at + 5, column);
+    linkshoar_put_pair(at + 7, data);
+    at[9] = masking;
+    linkshoar_put_pair(at + 10, mask);
+    at[12] = strobes;
+    return linkshoar_put_head(at, tag, 10);
+}
+
+static inline size_t linkshoar_put_load(uint8_t *at, uint8_t tag, uint16_t data, uint8_t strobes)
+{
+    linkshoar_put_pair(at + 3, data);
+    at[5] = strobes;
+    return linkshoar_put_head(at, tag, 3);
+}
+
+static inline size_t linkshoar_put_transfer(uint8_t *at, uint8_t tag, uint16_t row, uint8_t half, uint8_t tap)
+{
+    linkshoar_put_pair(at + 3, row);
+    at[5] = half;
+    at[6] = tap;
+    return linkshoar_put_head(at, tag, 4);
+}
+
+/* Each of the seven writes one field at `at` and answers how many bytes that is. It writes what it is given: linkshoar_list_run judges. An
+ * argument is as wide as its place in the field, and C cuts a wider number. */
+
+/* 13 bytes: the bits of one word that strobes and mask allow take the data's. */
+static inline size_t linkshoar_put_word_write(uint8_t *at, uint16_t row, uint16_t column, uint16_t data, uint8_t masking, uint16_t mask,
+                                              uint8_t strobes)
+{
+    return linkshoar_put_write(at, LINKSHOAR_TAG_WORD_WRITE, row, column, data, masking, mask, strobes);
+}
+
+/* 13 bytes: the same for the four words of the block that has the column, with the colour register as data: bit b of the block's word j,
+ * 0 to 3, is written where bit 4 * (b / 4) + j of the column mask is set too. */
+static inline size_t linkshoar_put_block_write(uint8_t *at, uint16_t row, uint16_t column, uint16_t column_mask, uint8_t masking,
+                                               uint16_t mask, uint8_t strobes)
+{
+    return linkshoar_put_write(at, LINKSHOAR_TAG_BLOCK_WRITE, row, column, column_mask, masking, mask, strobes);
+}
+
+/* 6 bytes: the strobed bytes of the colour register. */
+static inline size_t linkshoar_put_load_colour(uint8_t *at, uint16_t data, uint8_t strobes)
+{
+    return linkshoar_put_load(at, LINKSHOAR_TAG_LOAD_COLOUR, data, strobes);
+}
+
+/* 6 bytes: the strobed bytes of the mask register, which is persistent from then on. */
+static inline size_t linkshoar_put_load_mask(uint8_t *at, uint16_t data, uint8_t strobes)
+{
+    return linkshoar_put_load(at, LINKSHOAR_TAG_LOAD_MASK, data, strobes);
+}
+
+/* 3 bytes: the mask register stops being persistent. */
+static inline size_t linkshoar_put_reset_refresh(uint8_t *at)
+{
+    return linkshoar_put_head(at, LINKSHOAR_TAG_RESET_REFRESH, 0);
+}
+
+/* 7 bytes: the serial register takes half a row, and the pointer goes to the tap. */
+static inline size_t linkshoar_put_full_transfer(uint8_t *at, uint16_t row, uint8_t half, uint8_t tap)
+{
+    return linkshoar_put_transfer(at, LINKSHOAR_TAG_FULL_TRANSFER, row, half, tap);
+}
+
+/* 7 bytes: the half of the serial register that does not hold the pointer takes the same places of half a row, and the tap, counted from
+ * that half's start, waits: the pointer goes there from the end of its own half. */
+static inline size_t linkshoar_put_split_transfer(uint8_t *at, uint16_t row, uint8_t half, uint8_t tap)
+{
+    return linkshoar_put_transfer(at, LINKSHOAR_TAG_SPLIT_TRANSFER, row, half, tap);
+}
+
+/* ---- Calls */
+
 /* The states at power-on: zeros, and a pixel mask of 255. */
 linkshoar_vram linkshoar_vram_fresh(void);
 linkshoar_palette linkshoar_palette_fresh(void);
 
-/* Plans a fill of rows first_row up to end_row and columns first_column up to end_column (ends not included): writes the shortest list
- * that gives the rectangle's bits of mask the colour's. persistent: whether the mask register is, 0 no. Refused with 2, 12, 13, 15. */
+/* Plans a fill: writes the shortest list that gives the rectangle's bits of mask the colour's, for linkshoar_list_run.
+ * rows: the rows fitted, 1 to 512, as many as the memory has on which the list is to run. The rectangle: rows first_row up to end_row,
+ * columns first_column up to end_column, ends not included. mask: the bits to be painted; colour: the word that they take. persistent:
+ * the state's, which must be 0. list, length: the room for the list; LINKSHOAR_LIST_BYTES is always enough. Refused with 2, 12, 13, 15. */
 linkshoar_filled linkshoar_fill(uint32_t rows, uint32_t first_row, uint32_t end_row, uint32_t first_column, uint32_t end_column,
                                 uint16_t mask, uint16_t colour, uint32_t persistent, uint8_t *list, size_t length);
 
-/* Checks a list whole, then runs it in order. Refused with 1 to 10. */
+/* Checks a list whole, then runs it in order; length: the list's bytes. Refused with 1 to 10. */
 linkshoar_ran linkshoar_list_run(linkshoar_vram state, uint16_t *memory, size_t words, uint16_t *serial, size_t serial_words,
                                  const uint8_t *list, size_t length);
 
-/* Reads a word; strobes: 1 low byte, 2 high byte, 3 both, and a byte not strobed is 0. Refused with 2, 5, 6, 7. */
+/* Reads a word; a byte not strobed is 0. strobes: one of LINKSHOAR_STROBES_. Refused with 2, 5, 6, 7. */
 linkshoar_word linkshoar_word_read(const uint16_t *memory, size_t words, uint32_t row, uint32_t column, uint32_t strobes);
 
-/* One serial clock: answers the word at the pointer, which then moves. Refused with 1, 3, 10. */
+/* One serial clock: answers the word at the pointer, which then moves: to the next place, 255 going to 0, but from the end of a half, 127
+ * or 255, to the waiting tap if there is one. Refused with 1, 3, 10. */
 linkshoar_clocked linkshoar_serial_clock(linkshoar_vram state, const uint16_t *serial, size_t serial_words);
 
-/* A run of 0 to 512 clocks to the panel: three bytes a clock at the start of out, zeros where blank is not 0.
- * Refused with 1, 3, 10, 14, 15. */
+/* A run of 0 to 512 clocks to the panel: red, green, blue, 0 to 63, of each word at the start of out, zeros where blank is not 0. A word's
+ * pixel is its high byte, or its low byte where the high byte is 0; the pixel ANDed with the pixel mask is the entry shown. out_bytes: the
+ * room in out, at least 3 * clocks. Refused with 1, 3, 10, 14, 15.
+ *
+ * The serial register holds half a row, so a row is shown in two steps: a full transfer of half 0 with tap 0, run as a list, and a run of
+ * 256 clocks; then the same with half 1. */
 linkshoar_shown linkshoar_panel_run(linkshoar_vram state, const uint16_t *serial, size_t serial_words, linkshoar_palette palette,
                                     const uint8_t *table, size_t table_bytes, uint32_t clocks, uint32_t blank, uint8_t *out,
                                     size_t out_bytes);
 
-/* Palette accesses. A write is refused with 1, 3, 11, a read with 1, 11. */
+/* Palette accesses; select: one of LINKSHOAR_SELECT_. An entry is set by its address to select 0, then red, green and blue to select 1; the
+ * next three bytes set the next entry. A write answers byte 0. A write is refused with 1, 3, 11, a read with 1, 11. */
 linkshoar_accessed linkshoar_palette_write(linkshoar_palette state, uint8_t *table, size_t table_bytes, uint32_t select, uint8_t value);
 linkshoar_accessed linkshoar_palette_read(linkshoar_palette state, uint32_t select);
 
-/* The same with the state lent, from the palette's own archive, libpalette.a. */
+/* The same with the state lent: the new state is left there. The write answers the number. */
 uint32_t linkshoar_palette_write_lent(linkshoar_palette *state, uint8_t *table, size_t table_bytes, uint32_t select, uint8_t value);
 linkshoar_byte linkshoar_palette_read_lent(linkshoar_palette *state, uint32_t select);
 
-/* The Am8150's counters, for the older boards, from the controller's own archive, libcontroller_c.a. Each call is refused with 1 for a state
- * that the rules exclude: a Top of Frame or counter of 2^18 or more, cycles over 3, update over 2, page mode together with interleaved update,
- * a yes-or-no byte over 1.
+/* ---- The Am8150's counters, for the older boards
+ *
+ * Each call is refused with 1 for a state that the rules exclude: a Top of Frame or counter of 2^18 or more, cycles over 3, update over 2,
+ * page mode together with interleaved update, a yes-or-no byte over 1.
  *
  * A frame, not in override: a vertical sync; any horizontal syncs; then video goes from off to on; then for each line its fetches, video off,
  * a horizontal sync, video on. Word k of line l has the address top_of_frame + l * (words to a line + offset) + k, modulo LINKSHOAR_ADDRESSES.
