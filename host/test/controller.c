@@ -1,4 +1,4 @@
-#include "controller.h"
+#include "tries.h"
 
 #include "compare.h"
 #include "model.h"

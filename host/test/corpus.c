@@ -1,5 +1,6 @@
 /* Runs each list of the corpus on 64 rows and a fresh state, by the archive and by the second implementation, and compares all that they
  * answer and leave. A file is named NAME-number-place.list after what document 01 asks for it. */
+#include "compare.h"
 #include "model.h"
 
 #include <stdio.h>
@@ -7,8 +8,6 @@
 #include <string.h>
 
 enum { WORDS = 64 * 512 };
-
-static uint16_t memory_a[WORDS], memory_b[WORDS], serial_a[256], serial_b[256];
 
 static int try_file(const char *path)
 {
@@ -34,18 +33,19 @@ static int try_file(const char *path)
         serial_a[i] = serial_b[i] = (uint16_t)(i * 25 + 7);
     linkshoar_ran a = linkshoar_list_run(linkshoar_vram_fresh(), memory_a, WORDS, serial_a, 256, list, bytes);
     linkshoar_ran b = model_list_run(model_vram_fresh(), memory_b, WORDS, serial_b, 256, list, bytes);
-    if (a.number != number || a.place != place || b.number != number || b.place != place || memcmp(&a.state, &b.state, 9) ||
-        memcmp(memory_a, memory_b, sizeof memory_a) || memcmp(serial_a, serial_b, sizeof serial_a)) {
+    if (a.number != number || a.place != place || b.number != number || b.place != place || !vram_same(a.state, b.state)) {
         printf("DIFFERENCE: %s: %u at %u wanted, the archive %u at %u, the second implementation %u at %u\n", path, number, place, a.number,
                (unsigned)a.place, b.number, (unsigned)b.place);
         return 1;
     }
+    same_all();
     return 0;
 }
 
 int main(int argc, char **argv)
 {
     int bad = argc < 2;
+    sow(1);
     for (int i = 1; i < argc; i++)
         bad |= try_file(argv[i]);
     if (!bad)

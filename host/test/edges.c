@@ -1,0 +1,94 @@
+#include "both.h"
+#include "compare.h"
+#include "tries.h"
+
+#include <string.h>
+
+#define EACH(n, lengths) for (size_t n##_at = 0, n; n##_at < sizeof lengths / sizeof *lengths && (n = lengths[n##_at], 1); n##_at++)
+
+/* Lengths of the slices that have one length or a few: empty, one short, as they should be, one long; and 513 rows. */
+static const size_t memories[] = {0, 511, 512, 513, 1024, 512 * 512 - 1, 512 * 512, 512 * 512 + 1, 513 * 512};
+static const size_t serials[] = {0, 255, 256, 257};
+static const size_t tables[] = {0, 767, 768, 769};
+
+static linkshoar_vram loaded(void)
+{
+    linkshoar_vram s = linkshoar_vram_fresh();
+    s.loaded = 1;
+    return s;
+}
+
+static void list_edges(void)
+{
+    uint8_t list[5 * LINKSHOAR_FIELD_BYTES];
+    size_t n = linkshoar_put_full_transfer(list, 0, 1, 255);
+    n += linkshoar_put_load_colour(list + n, 0xA5C3, LINKSHOAR_STROBES_BOTH);
+    n += linkshoar_put_block_write(list + n, 0, 511, 0x8421, LINKSHOAR_MASKING_PLAIN, 0, LINKSHOAR_STROBES_BOTH);
+    n += linkshoar_put_word_write(list + n, 0, 0, (uint16_t)any(), LINKSHOAR_MASKING_MASKED, 0x0FF0, LINKSHOAR_STROBES_LOW);
+    n += linkshoar_put_split_transfer(list + n, 0, 0, 127);
+    memcpy(bytes_a, list, n);
+    memcpy(bytes_b, list, n);
+    const size_t lengths[] = {0, n - 1, n, n + 1};
+    EACH(words, memories)
+        EACH(serial, serials)
+            EACH(length, lengths)
+                both_list_run(linkshoar_vram_fresh(), words, serial, length);
+}
+
+static void word_edges(void)
+{
+    EACH(words, memories) {
+        both_word_read(words, 0, 511, LINKSHOAR_STROBES_BOTH);
+        both_word_read(words, 1, 0, LINKSHOAR_STROBES_BOTH);
+        both_word_read(words, 511, 511, LINKSHOAR_STROBES_HIGH);
+        both_word_read(words, 512, 0, LINKSHOAR_STROBES_LOW);
+    }
+}
+
+static void fill_edges(void)
+{
+    const size_t lengths[] = {0, 31, 32, 33};
+    EACH(room, lengths) {
+        both_fill(64, 3, 4, 2, 7, 0x00FF, 0x0011, 0, room); /* 32 bytes */
+        both_fill(64, 3, 3, 2, 7, 0x00FF, 0x0011, 0, room); /* none */
+        both_fill(513, 3, 4, 2, 7, 0x00FF, 0x0011, 0, room);
+    }
+}
+
+static void panel_edges(void)
+{
+    static const uint32_t clocks[] = {0, 1, 512, 513};
+    EACH(serial, serials) {
+        both_serial_clock(loaded(), serial);
+        EACH(table, tables)
+            for (int c = 0; c < 4; c++)
+                for (uint32_t blank = 0; blank < 2; blank++) {
+                    const size_t full = 3 * clocks[c], rooms[] = {0, full ? full - 1 : 0, full, full + 1};
+                    EACH(room, rooms)
+                        both_panel_run(loaded(), serial, linkshoar_palette_fresh(), table, clocks[c], blank, room);
+                }
+    }
+}
+
+static void palette_edges(void)
+{
+    linkshoar_palette last = linkshoar_palette_fresh();
+    last.address = 255;
+    last.phase = 2;
+    EACH(table, tables)
+        for (uint32_t select = 0; select < 5; select++) {
+            both_palette_write(last, table, select, 255);
+            both_palette_write_lent(last, table, select, 255);
+            both_palette_read(last, select);
+            both_palette_read_lent(last, select);
+        }
+}
+
+void try_edges(void)
+{
+    list_edges();
+    word_edges();
+    fill_edges();
+    panel_edges();
+    palette_edges();
+}
