@@ -12,8 +12,8 @@ use Rattle.vram.specs.Serial.{clockIn, lengthOf}
 use Rattle.vram.specs.Calls.{cycleCall, clockRefusal, clockCall}
 use Rattle.vram.specs.Kinds.{tagOf}
 use Rattle.palette.specs.State.{ruled as paletteRuled}
-use Rattle.palette.specs.Access.{written, writtenTable}
-use Rattle.palette.specs.Calls.{writeRefusal as paletteRefusal, writeCall}
+use Rattle.palette.specs.Access.{afterWrite, tableAfterWrite}
+use Rattle.palette.specs.Calls.{paletteWriteRefusal, writeCall}
 use Rattle.list.specs.Tags.{word, known, lenOf, cycleOf}
 use Rattle.list.specs.Fields.{whole, fieldOf, parts}
 use Rattle.list.specs.Encode.{encode, encodeAll, bodyOf}
@@ -23,5 +23,5 @@ use Rattle.planner.specs.Calls.{fillRefusal, fillCall}
 use Rattle.bench.specs.Cases.{starred, Every}
 
 pub starred-cases-hold : Every starred
-unfolding bit ofBits merged covers lets writeRefusal loadRefusal fullRefusal splitRefusal ruled put puts copied effect given refusal number stepBy runBy lengthOf clockIn cycleCall clockRefusal clockCall tagOf paletteRuled written writtenTable paletteRefusal writeCall word known lenOf cycleOf whole fieldOf parts encode encodeAll bodyOf cycles inside touched picked columnsOf plan fillRefusal fillCall
+unfolding bit ofBits merged covers lets writeRefusal loadRefusal fullRefusal splitRefusal ruled put puts copied effect given refusal number stepBy runBy lengthOf clockIn cycleCall clockRefusal clockCall tagOf paletteRuled afterWrite tableAfterWrite paletteWriteRefusal writeCall word known lenOf cycleOf whole fieldOf parts encode encodeAll bodyOf cycles inside touched picked columnsOf plan fillRefusal fillCall
 starred-cases-hold = (refl, (refl, (refl, (refl, (refl, (refl, (refl, (refl, ((refl, refl, refl), ((refl, refl, refl), ((refl, refl, refl), ((λ m r h k. (rw (h, k), rw (h, k))), tt))))))))))))

@@ -13,11 +13,11 @@ use Rattle.vram.specs.Step.{run}
 use Rattle.vram.specs.Calls.{cycleCall, clockCall}
 use Rattle.palette.specs.declared.Palette.{Palette}
 use Rattle.palette.specs.State.{fresh as freshPalette}
-use Rattle.palette.specs.Calls.{Outcome as Written, outcome as written, accessed, writeCall}
+use Rattle.palette.specs.Calls.{Outcome as Accesses, outcome as accessesTo, accessed, writeCall}
 use Rattle.list.specs.Meaning.{cyclesOf}
 use Rattle.planner.specs.Fill.{fill}
 use Rattle.planner.specs.Calls.{fillCall}
-use Rattle.planner.specs.Paint.{written as bytesWritten}
+use Rattle.planner.specs.Paint.{listIn}
 
 -- ---- a case of each kind, and when it holds
 
@@ -58,8 +58,8 @@ abbrev pub sevens : List ℕ
 sevens = replicate 768 7
 
 -- accesses one after the other
-abbrev pub accesses : List (ℕ × ℕ) → Palette → List ℕ → Written
-accesses [] p t = written (accessed p 0 0) t
+abbrev pub accesses : List (ℕ × ℕ) → Palette → List ℕ → Accesses
+accesses [] p t = accessesTo (accessed p 0 0) t
 accesses ((select, value) ∷ l) p t = let o = writeCall p t select value in accesses l (o .answer .state) (o .table)
 
 abbrev pub Holds : Case → Type 0
@@ -69,10 +69,10 @@ Holds (block-write masking mask strobes words) =
 Holds (serial transfers clocks answered) =
     let b = run transfers (board fresh (places 0 512) (replicate 256 0)) in
     clocked clocks (b .state) (b .serial) ≡ done answered
-Holds (palette writes state table) = accesses writes freshPalette sevens ≡ written (accessed state 0 0) table
+Holds (palette writes state table) = accesses writes freshPalette sevens ≡ accessesTo (accessed state 0 0) table
 Holds (fill-row firstColumn endColumn cycles list) =
     let o = fillCall (fill 1 0 1 firstColumn endColumn 0xFFFF 0x0011 0) (replicate 32 0) in
-    (o .answer .number ≡ 0) × (o .answer .cycles ≡ cycles) × (cyclesOf (bytesWritten o) ≡ list)
+    (o .answer .number ≡ 0) × (o .answer .cycles ≡ cycles) × (cyclesOf (listIn o) ≡ list)
 Holds (row accepted refused number) =
     (m r : List ℕ) → length m ≡ 262144 → length r ≡ 256
     → (cycleCall (WordWrite refused 0 0 0 0 3) (board fresh m r) ≡ record { given = number; after = board fresh m r })

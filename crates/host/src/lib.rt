@@ -3,12 +3,12 @@
 // narrowed. Nothing is allocated and nothing is kept.
 ghost use mathlib.Core.Path.{_≡_};
 ghost use Rattle.vram.specs.State.{fresh as freshVram};
-ghost use Rattle.vram.specs.Calls.{readCall};
+ghost use Rattle.vram.specs.Calls.{wordReadCall};
 ghost use Rattle.palette.specs.State.{fresh as freshPalette};
-ghost use Rattle.palette.specs.Calls.{outcome as accessedOutcome, writeCall, readCall as paletteRead};
+ghost use Rattle.palette.specs.Calls.{outcome as accessedOutcome, writeCall, readCall};
 ghost use Rattle.planner.specs.Fill.{fill};
 ghost use Rattle.planner.specs.Calls.{outcome as filledOutcome, fillCall};
-ghost use Rattle.planner.specs.Paint.{written, Demanded};
+ghost use Rattle.planner.specs.Paint.{listIn, Demanded};
 ghost use Rattle.host.specs.State.{handed};
 ghost use Rattle.host.specs.Calls.{listed, listCall, clockCall, shown, panelCall};
 
@@ -88,7 +88,7 @@ pub extern "C" fn linkshoar_fill(
     list: &mut [u8],
 ) -> Filled
     ensures outcome { λ r. ⌜ filledOutcome r (now (list .exit)) ≡ fillCall (fill rows «first_row» «end_row» «first_column» «end_column» mask colour persistent) (now (list .entry)) ⌝ }
-    ensures demand { λ r. ⌜ (r .number ≡ 0 → Demanded (fill rows «first_row» «end_row» «first_column» «end_column» mask colour persistent) r (written (filledOutcome r (now (list .exit))))) ⌝ }
+    ensures demand { λ r. ⌜ (r .number ≡ 0 → Demanded (fill rows «first_row» «end_row» «first_column» «end_column» mask colour persistent) r (listIn (filledOutcome r (now (list .exit))))) ⌝ }
 {
     planner::linkshoar_fill(
         rows,
@@ -131,7 +131,7 @@ pub extern "C" fn linkshoar_list_run(
 // A word, with 0 in a byte not strobed.
 #[no_mangle]
 pub extern "C" fn linkshoar_word_read(memory: &[u16], row: u32, column: u32, strobes: u32) -> Word
-    ensures { λ r. ⌜ r ≡ readCall (now (memory .entry)) row column strobes ⌝ }
+    ensures { λ r. ⌜ r ≡ wordReadCall (now (memory .entry)) row column strobes ⌝ }
 {
     vram::read(memory, row, column, strobes)
 }
@@ -198,7 +198,7 @@ pub extern "C" fn linkshoar_palette_write(
 // A palette read.
 #[no_mangle]
 pub extern "C" fn linkshoar_palette_read(state: Palette, select: u32) -> Accessed
-    ensures { λ r. ⌜ r ≡ paletteRead state select ⌝ }
+    ensures { λ r. ⌜ r ≡ readCall state select ⌝ }
 {
     state.read(select)
 }

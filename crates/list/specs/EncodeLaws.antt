@@ -95,22 +95,22 @@ length-encode c = omega (arith, body-length c)
 
 -- ---- a list that was written
 
-abbrev pub written : Cycle → Field
-written c = Reads c (lenOf (tagOf c))
+abbrev pub encoded : Cycle → Field
+encoded c = Reads c (lenOf (tagOf c))
 
-pub fields-encodeAll : (cs : List Cycle) → fields (encodeAll cs) ≡ map written cs
+pub fields-encodeAll : (cs : List Cycle) → fields (encodeAll cs) ≡ map encoded cs
 unfolding encodeAll parts
 fields-encodeAll [] = refl
-fields-encodeAll (c ∷ cs) = fields-encode c (encodeAll cs) ∙ ap (λ (fs : List Field). written c ∷ fs) (fields-encodeAll cs)
+fields-encodeAll (c ∷ cs) = fields-encode c (encodeAll cs) ∙ ap (λ (fs : List Field). encoded c ∷ fs) (fields-encodeAll cs)
 
-written-cycles : (cs : List Cycle) → cycles (map written cs) ≡ cs
+encoded-cycles : (cs : List Cycle) → cycles (map encoded cs) ≡ cs
 unfolding cycles
-written-cycles [] = refl
-written-cycles (c ∷ cs) = ap (λ (l : List Cycle). c ∷ l) (written-cycles cs)
+encoded-cycles [] = refl
+encoded-cycles (c ∷ cs) = ap (λ (l : List Cycle). c ∷ l) (encoded-cycles cs)
 
 -- its cycles are those that were written
 pub cycles-encodeAll : (cs : List Cycle) → cyclesOf (encodeAll cs) ≡ cs
-cycles-encodeAll cs = ap cycles (fields-encodeAll cs) ∙ written-cycles cs
+cycles-encodeAll cs = ap cycles (fields-encodeAll cs) ∙ encoded-cycles cs
 
 pub count-encodeAll : (cs : List Cycle) → countOf (encodeAll cs) ≡ length cs
-count-encodeAll cs = ap length (fields-encodeAll cs) ∙ length-map cs written
+count-encodeAll cs = ap length (fields-encodeAll cs) ∙ length-map cs encoded

@@ -16,7 +16,7 @@ use Rattle.list.specs.Meaning.{numberOf, madeBy, bad, verdict, verdictOf
 use Rattle.list.specs.VerdictLaws.{verdict-nil, verdict-good}
 use Rattle.list.specs.CallLaws.{verdict-fields, call-given, call-runs}
 use Rattle.list.specs.Encode.{bodyOf, encode, encodeAll}
-use Rattle.list.specs.EncodeLaws.{written, fields-encodeAll, cycles-encodeAll}
+use Rattle.list.specs.EncodeLaws.{encoded, fields-encodeAll, cycles-encodeAll}
 
 -- ---- byte by byte
 
@@ -57,20 +57,20 @@ encode-append (c ∷ cs) ds = ap (λ (r : List ℕ). encode c ++ r) (encode-appe
 -- ---- accepted and run, where no cycle is refused on so many rows
 
 module _ (rows : ℕ) where
-  verdict-written : (cs : List Cycle) → ((c : Cycle) → List·Memᴰ c cs → (made : Bool) → refusal rows made c ≡ 0)
-      → (made : Bool) (at : ℕ) → verdict rows made at (map written cs) ≡ bad 0 0
+  verdict-encoded : (cs : List Cycle) → ((c : Cycle) → List·Memᴰ c cs → (made : Bool) → refusal rows made c ≡ 0)
+      → (made : Bool) (at : ℕ) → verdict rows made at (map encoded cs) ≡ bad 0 0
   unfolding numberOf
-  verdict-written [] h made at = verdict-nil rows made at
-  verdict-written (c ∷ cs) h made at =
-      verdict-good rows made at (written c) (map written cs) (h c (List·Memᴰ·head refl) made)
-      ∙ verdict-written cs (λ d m. h d (List·Memᴰ·tail m)) (madeBy (written c) made) (at + sizeOf (written c))
+  verdict-encoded [] h made at = verdict-nil rows made at
+  verdict-encoded (c ∷ cs) h made at =
+      verdict-good rows made at (encoded c) (map encoded cs) (h c (List·Memᴰ·head refl) made)
+      ∙ verdict-encoded cs (λ d m. h d (List·Memᴰ·tail m)) (madeBy (encoded c) made) (at + sizeOf (encoded c))
 
 module _ (cs : List Cycle) (b : Board) (g : givenOf b ≡ 0) (h : (c : Cycle) → List·Memᴰ c cs → (made : Bool) → refusal (rowsOf b) made c ≡ 0) where
   pub encoded-verdict : verdictOf (encodeAll cs) b ≡ bad 0 0
   encoded-verdict =
       verdict-fields (encodeAll cs) b g
       ∙ ap (verdict (rowsOf b) (b .state .loaded) 0) (fields-encodeAll cs)
-      ∙ verdict-written (rowsOf b) cs h (b .state .loaded) 0
+      ∙ verdict-encoded (rowsOf b) cs h (b .state .loaded) 0
 
   pub encoded-run : runCall (encodeAll cs) b ≡ gives (bad 0 0) (run cs b)
   encoded-run =

@@ -40,11 +40,11 @@ colouredTable p t d = cond (atBlue p) (entered t (registered p d)) t
 
 -- ---- a write, by its select
 
-unfoldable pub written : Palette → List ℕ → ℕ → ℕ → Palette
-written p t s d = cond (eqb s 0) (addressed p d) (cond (eqb s 1) (coloured p d) (cond (eqb s 2) (withMask p d) (taken (addressed p d) t)))
+unfoldable pub afterWrite : Palette → List ℕ → ℕ → ℕ → Palette
+afterWrite p t s d = cond (eqb s 0) (addressed p d) (cond (eqb s 1) (coloured p d) (cond (eqb s 2) (withMask p d) (taken (addressed p d) t)))
 
-unfoldable pub writtenTable : Palette → List ℕ → ℕ → ℕ → List ℕ
-writtenTable p t s d = cond (eqb s 1) (colouredTable p t d) t
+unfoldable pub tableAfterWrite : Palette → List ℕ → ℕ → ℕ → List ℕ
+tableAfterWrite p t s d = cond (eqb s 1) (colouredTable p t d) t
 
 -- ---- a read, by its select
 
@@ -53,8 +53,8 @@ abbrev pub colourRead : Palette → Palette
 colourRead p = moved p
 
 -- the byte: A, the register of the phase, the pixel mask
-unfoldable pub answered : Palette → ℕ → ℕ
-answered p s = cond (eqb s 0) (p .address) (cond (eqb s 1) (register p) (p .mask))
+unfoldable pub byteRead : Palette → ℕ → ℕ
+byteRead p s = cond (eqb s 0) (p .address) (cond (eqb s 1) (register p) (p .mask))
 
 -- the state
 unfoldable pub afterRead : Palette → ℕ → Palette

@@ -8,7 +8,7 @@ use lib.ListN.{length}
 use Rattle.palette.specs.declared.Palette.{Palette}
 use Rattle.palette.specs.Table.{six}
 use Rattle.palette.specs.State.{withRegister}
-use Rattle.palette.specs.Access.{addressed, taken, registered, atBlue, coloured, written, writtenTable, afterRead}
+use Rattle.palette.specs.Access.{addressed, taken, registered, atBlue, coloured, afterWrite, tableAfterWrite, afterRead}
 use Rattle.palette.specs.TableLaws.{store-length}
 use Rattle.palette.specs.StateLaws.{Ruled, cond-holds, six-small, moved-ruled, withRegister-ruled}
 
@@ -33,9 +33,9 @@ module _ (p : Palette) (r : Ruled p) where
   unfolding afterRead
   afterRead-ruled s = cond-holds Ruled (eqb s 1) (moved-ruled p r) r
 
-pub written-ruled : (p : Palette) → Ruled p → (t : List ℕ) (s d : ℕ) → Ruled (written p t s d)
-unfolding written
-written-ruled p r t s d =
+pub afterWrite-ruled : (p : Palette) → Ruled p → (t : List ℕ) (s d : ℕ) → Ruled (afterWrite p t s d)
+unfolding afterWrite
+afterWrite-ruled p r t s d =
     cond-holds Ruled (eqb s 0) (addressed-ruled p r d)
     (cond-holds Ruled (eqb s 1) (coloured-ruled p r d)
     (cond-holds Ruled (eqb s 2) (record { phase = r .phase; red = r .red; green = r .green; blue = r .blue })
@@ -43,9 +43,9 @@ written-ruled p r t s d =
 
 -- ---- the table's length
 
-pub writtenTable-length : (p : Palette) (t : List ℕ) (s d : ℕ) → length (writtenTable p t s d) ≡ length t
-unfolding writtenTable
-writtenTable-length p t s d =
+pub tableAfterWrite-length : (p : Palette) (t : List ℕ) (s d : ℕ) → length (tableAfterWrite p t s d) ≡ length t
+unfolding tableAfterWrite
+tableAfterWrite-length p t s d =
     cond-holds (λ (l : List ℕ). length l ≡ length t) (eqb s 1)
     (cond-holds (λ (l : List ℕ). length l ≡ length t) (atBlue p) (store-length t (p .address) _) refl)
     refl

@@ -7,7 +7,7 @@ use Rattle.numbers.specs.Refuse.{refuse, leaves}
 use Rattle.palette.specs.declared.Palette.{Palette}
 use Rattle.palette.specs.declared.Accessed.{Accessed}
 use Rattle.palette.specs.State.{ruled}
-use Rattle.palette.specs.Access.{written, writtenTable, answered, afterRead}
+use Rattle.palette.specs.Access.{afterWrite, tableAfterWrite, byteRead, afterRead}
 
 abbrev pub accessed : Palette → ℕ → ℕ → Accessed
 accessed p byte number = record { state = p; byte = byte; number = number }
@@ -23,21 +23,21 @@ abbrev pub outcome : Accessed → List ℕ → Outcome
 outcome r t = record { answer = r; table = t }
 
 -- 1 a state the rules exclude, 3 palette not 768 bytes, 11 select over 3
-unfoldable pub writeRefusal : Palette → ℕ → ℕ → ℕ
-writeRefusal p bytes s = refuse (ruled p) 1 (refuse (eqb bytes 768) 3 (refuse (leb s 3) 11 0))
+unfoldable pub paletteWriteRefusal : Palette → ℕ → ℕ → ℕ
+paletteWriteRefusal p bytes s = refuse (ruled p) 1 (refuse (eqb bytes 768) 3 (refuse (leb s 3) 11 0))
 
 unfoldable pub writeCall : Palette → List ℕ → ℕ → ℕ → Outcome
 writeCall p t s d =
-    let n = writeRefusal p (length t) s in
-    outcome (accessed (leaves n p (written p t s d)) 0 n) (leaves n t (writtenTable p t s d))
+    let n = paletteWriteRefusal p (length t) s in
+    outcome (accessed (leaves n p (afterWrite p t s d)) 0 n) (leaves n t (tableAfterWrite p t s d))
 
 -- ---- a read
 
 -- 1 a state the rules exclude, 11 select over 3, or a read of select 3
-unfoldable pub readRefusal : Palette → ℕ → ℕ
-readRefusal p s = refuse (ruled p) 1 (refuse (leb s 2) 11 0)
+unfoldable pub paletteReadRefusal : Palette → ℕ → ℕ
+paletteReadRefusal p s = refuse (ruled p) 1 (refuse (leb s 2) 11 0)
 
 unfoldable pub readCall : Palette → ℕ → Accessed
 readCall p s =
-    let n = readRefusal p s in
-    accessed (leaves n p (afterRead p s)) (leaves n 0 (answered p s)) n
+    let n = paletteReadRefusal p s in
+    accessed (leaves n p (afterRead p s)) (leaves n 0 (byteRead p s)) n

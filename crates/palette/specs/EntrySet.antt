@@ -10,7 +10,7 @@ use lib.ListN.{length}
 use Rattle.palette.specs.declared.Palette.{Palette}
 use Rattle.palette.specs.Table.{colour, sixes, entry, store}
 use Rattle.palette.specs.State.{withColours, ruled, advanced}
-use Rattle.palette.specs.Access.{addressed, coloured, colouredTable, written, writtenTable}
+use Rattle.palette.specs.Access.{addressed, coloured, colouredTable, afterWrite, tableAfterWrite}
 use Rattle.palette.specs.Calls.{Outcome, accessed, outcome, writeCall}
 use Rattle.palette.specs.TableLaws.{store-length, store-here, store-other}
 use Rattle.palette.specs.StateLaws.{Ruled, ruled-parts, ruled-whole}
@@ -36,7 +36,7 @@ pub record EntrySet (t : List ℕ) (a r g b : ℕ) (o : Outcome) : Type 0 where
 
 module _ (p : Palette) (t : List ℕ) (rule : ruled p ≡ true) (bytes : length t ≡ 768) where
   pub address-write : (a : ℕ) → writeCall p t 0 a ≡ outcome (accessed (addressed p a) 0 0) t
-  unfolding written writtenTable
+  unfolding afterWrite tableAfterWrite
   address-write a = write-accepted p t rule bytes 0 a (omega arith)
 
   -- after a write of select 0 the phase is 0, whatever came before
@@ -57,11 +57,11 @@ module _ (p : Palette) (t : List ℕ) (rule : ruled p ≡ true) (bytes : length 
       })
       0 0)
       t
-  unfolding written writtenTable
+  unfolding afterWrite tableAfterWrite
   entry-taken a = write-accepted p t rule bytes 3 a (omega arith)
 
   colour-write : (d : ℕ) → writeCall p t 1 d ≡ outcome (accessed (coloured p d) 0 0) (colouredTable p t d)
-  unfolding written writtenTable
+  unfolding afterWrite tableAfterWrite
   colour-write d = write-accepted p t rule bytes 1 d (omega arith)
 
 module _ (p : Palette) (t : List ℕ) (a r g b : ℕ) (rule : ruled p ≡ true) (bytes : length t ≡ 768) where

@@ -2,7 +2,7 @@
 ghost use mathlib.Core.Path.{_≡_};
 ghost use lib.ListN.{length};
 ghost use Rattle.palette.specs.State.{advanced};
-ghost use Rattle.palette.specs.Access.{addressed, taken, entered, coloured, colouredTable, written, writtenTable, colourRead, answered, afterRead};
+ghost use Rattle.palette.specs.Access.{addressed, taken, entered, coloured, colouredTable, afterWrite, tableAfterWrite, colourRead, byteRead, afterRead};
 use crate::Palette;
 
 impl Palette {
@@ -50,10 +50,10 @@ impl Palette {
     }
 
     // A write, by its select.
-    pub(crate) fn written(self, table: &mut [u8], select: u32, value: u8) -> Palette
+    pub(crate) fn after_write(self, table: &mut [u8], select: u32, value: u8) -> Palette
         requires { ⌜ length (now table) ≡ 768 ⌝ }
-        ensures state { λ r. ⌜ r ≡ written self (now (table .entry)) select value ⌝ }
-        ensures entry { λ r. ⌜ now (table .exit) ≡ writtenTable self (now (table .entry)) select value ⌝ }
+        ensures state { λ r. ⌜ r ≡ afterWrite self (now (table .entry)) select value ⌝ }
+        ensures entry { λ r. ⌜ now (table .exit) ≡ tableAfterWrite self (now (table .entry)) select value ⌝ }
     {
         match select {
             0 => self.addressed(value),
@@ -71,8 +71,8 @@ impl Palette {
     }
 
     // The byte that a read answers, by its select.
-    pub(crate) fn answered(self, select: u32) -> u8
-        ensures { λ r. ⌜ r ≡ answered self select ⌝ }
+    pub(crate) fn byte_read(self, select: u32) -> u8
+        ensures { λ r. ⌜ r ≡ byteRead self select ⌝ }
     {
         match select {
             0 => self.address,

@@ -59,7 +59,7 @@ impl Palette {
                 number: n,
             };
         }
-        let state = self.written(table, select, value);
+        let state = self.after_write(table, select, value);
         Accessed {
             state,
             byte: 0,
@@ -80,7 +80,7 @@ impl Palette {
                 number: n,
             };
         }
-        let byte = self.answered(select);
+        let byte = self.byte_read(select);
         let state = self.after_read(select);
         Accessed {
             state,

@@ -18,7 +18,7 @@ use Rattle.vram.specs.Calls.{answered, clocksRefusal, clocksCall}
 use Rattle.vram.specs.CallLaws.{clocks-number, clocks-moves}
 use Rattle.palette.specs.declared.Palette.{Palette}
 use Rattle.palette.specs.State.{ruled as paletteRuled}
-use Rattle.panel.specs.Panel.{panelOf, painted}
+use Rattle.panel.specs.Panel.{panelOf, runBytes}
 use Rattle.numbers.specs.Buffer.{over}
 use Rattle.panel.specs.Calls.{runRefusal, outcome, runCall}
 
@@ -59,9 +59,9 @@ module _ (s : Vram) (r : List ℕ) (p : Palette) (t : List ℕ) (k blank : ℕ) 
   pub run-refuses : n ≢ 0 → outcome (answered n s) out ≡ runCall s r p t k blank out
   unfolding runCall
   run-refuses h =
-      rw (← e, leaves-before n s (clocks k s) h, leaves-before n out (over (painted (panelOf (p .mask) t) blank k s r) out) h)
+      rw (← e, leaves-before n s (clocks k s) h, leaves-before n out (over (runBytes (panelOf (p .mask) t) blank k s r) out) h)
 
-  pub run-acts : n ≡ 0 → (a : Moved) (out′ : List ℕ) → a ≡ clocksCall s k → out′ ≡ over (painted (panelOf (p .mask) t) blank k s r) out
+  pub run-acts : n ≡ 0 → (a : Moved) (out′ : List ℕ) → a ≡ clocksCall s k → out′ ≡ over (runBytes (panelOf (p .mask) t) blank k s r) out
       → outcome (answered (a .number) (a .state)) out′ ≡ runCall s r p t k blank out
   unfolding runCall
   run-acts z a out′ f g =
@@ -78,6 +78,6 @@ run-number s r p t k blank out = refl
 
 -- what an accepted run answers and leaves
 pub run-made : (s : Vram) (r : List ℕ) (p : Palette) (t : List ℕ) (k blank : ℕ) (out : List ℕ) → runRefusal s p (length r) (length t) k (length out) ≡ 0
-    → runCall s r p t k blank out ≡ outcome (answered 0 (clocks k s)) (over (painted (panelOf (p .mask) t) blank k s r) out)
+    → runCall s r p t k blank out ≡ outcome (answered 0 (clocks k s)) (over (runBytes (panelOf (p .mask) t) blank k s r) out)
 unfolding runCall
 run-made s r p t k blank out z = rw z

@@ -7,7 +7,7 @@ use lib.Bits.{bitAnd}
 use lib.ListN.{replicate}
 use Rattle.words.specs.Word.{high}
 use Rattle.vram.specs.declared.Vram.{Vram}
-use Rattle.vram.specs.Serial.{words}
+use Rattle.vram.specs.Serial.{clockedWords}
 use Rattle.palette.specs.Table.{Colour, colour, gives}
 
 -- ---- the two rules of a panel
@@ -48,11 +48,11 @@ bytesOf p (word ∷ rest) = colourOf p word .red ∷ colourOf p word .green ∷ 
 -- ---- a run of k clocks: the bytes of the words that they answer; zeros where it is blanked
 
 abbrev pub shown : Panel → ℕ → Vram → List ℕ → List ℕ
-shown p k s r = bytesOf p (words k s r)
+shown p k s r = bytesOf p (clockedWords k s r)
 
 abbrev pub zeros : ℕ → List ℕ
 zeros n = replicate n 0
 
 -- blank: 0 no, any other number yes
-abbrev pub painted : Panel → ℕ → ℕ → Vram → List ℕ → List ℕ
-painted p blank k s r = cond (eqb blank 0) (shown p k s r) (zeros (3 * k))
+abbrev pub runBytes : Panel → ℕ → ℕ → Vram → List ℕ → List ℕ
+runBytes p blank k s r = cond (eqb blank 0) (shown p k s r) (zeros (3 * k))

@@ -10,10 +10,10 @@ use lib.Dec.{eqb}
 use lib.ListN.{length, getD, set, take, drop, length-append, length-take, length-replicate}
 use lib.Seq.{take-suc, drop-cons, drop-drop, set-at, take-at, drop-at}
 use Rattle.vram.specs.declared.Vram.{Vram}
-use Rattle.vram.specs.Serial.{clocks, words}
-use Rattle.vram.specs.SerialLaws.{words-none, words-add, words-length}
+use Rattle.vram.specs.Serial.{clocks, clockedWords}
+use Rattle.vram.specs.SerialLaws.{clockedWords-none, clockedWords-add, clockedWords-length}
 use Rattle.palette.specs.Table.{Colour, store}
-use Rattle.panel.specs.Panel.{Panel, colourOf, bytesOf, shown, zeros, painted}
+use Rattle.panel.specs.Panel.{Panel, colourOf, bytesOf, shown, zeros, runBytes}
 use Rattle.numbers.specs.Buffer.{over}
 use Rattle.numbers.specs.BufferLaws.{over-length}
 
@@ -37,18 +37,18 @@ unfolding bytesOf
 bytes-one p w = refl
 
 pub shown-length : (p : Panel) (k : ℕ) (s : Vram) (r : List ℕ) → length (shown p k s r) ≡ 3 * k
-shown-length p k s r = bytes-length p (words k s r) ∙ ap (λ (n : ℕ). 3 * n) (words-length k s r)
+shown-length p k s r = bytes-length p (clockedWords k s r) ∙ ap (λ (n : ℕ). 3 * n) (clockedWords-length k s r)
 
 -- a run of j + k clocks shows what j show and then what k show
 pub shown-add : (p : Panel) (j k : ℕ) (s : Vram) (r : List ℕ) → shown p (j + k) s r ≡ shown p j s r ++ shown p k (clocks j s) r
-shown-add p j k s r = ap (bytesOf p) (words-add j k s r) ∙ bytes-append p (words j s r) (words k (clocks j s) r)
+shown-add p j k s r = ap (bytesOf p) (clockedWords-add j k s r) ∙ bytes-append p (clockedWords j s r) (clockedWords k (clocks j s) r)
 
 -- ---- bytes at the start of a buffer
 
 -- no clocks show nothing
 pub over-none : (p : Panel) (s : Vram) (r out : List ℕ) → out ≡ over (shown p 0 s r) out
 unfolding bytesOf
-over-none p s r out = rw (words-none s r)
+over-none p s r out = rw (clockedWords-none s r)
 
 -- more bytes, after the first
 pub over-more : (bs cs out : List ℕ) (n : ℕ) → length bs ≡ n → over (bs ++ cs) out ≡ take n (over bs out) ++ over cs (drop n (over bs out))
@@ -108,8 +108,8 @@ zeros-add (suc i) j =
 
 -- ---- a run of j + k clocks, blanked or not, is a run of j and then a run of k
 
-pub painted-add : (p : Panel) (blank j k : ℕ) (s : Vram) (r : List ℕ) → painted p blank (j + k) s r ≡ painted p blank j s r ++ painted p blank k (clocks j s) r
-painted-add p blank j k s r = go (eqb blank 0)
+pub runBytes-add : (p : Panel) (blank j k : ℕ) (s : Vram) (r : List ℕ) → runBytes p blank (j + k) s r ≡ runBytes p blank j s r ++ runBytes p blank k (clocks j s) r
+runBytes-add p blank j k s r = go (eqb blank 0)
   where
     e : 3 * (j + k) ≡ 3 * j + 3 * k
     e = omega arith
@@ -119,8 +119,8 @@ painted-add p blank j k s r = go (eqb blank 0)
     go true = shown-add p j k s r
     go false = ap zeros e ∙ zeros-add (3 * j) (3 * k)
 
-pub painted-length : (p : Panel) (blank k : ℕ) (s : Vram) (r : List ℕ) → length (painted p blank k s r) ≡ 3 * k
-painted-length p blank k s r = go (eqb blank 0)
+pub runBytes-length : (p : Panel) (blank k : ℕ) (s : Vram) (r : List ℕ) → length (runBytes p blank k s r) ≡ 3 * k
+runBytes-length p blank k s r = go (eqb blank 0)
   where
     go : (t : Bool) → length (cond t (shown p k s r) (zeros (3 * k))) ≡ 3 * k
     go true = shown-length p k s r

@@ -11,7 +11,7 @@ mod stretches;
 
 use numbers::refuse;
 use palette::Palette;
-use stretches::paint;
+use stretches::run_bytes;
 use vram::Answered;
 use vram::Vram;
 
@@ -57,7 +57,7 @@ pub fn run(
     if n != numbers::DONE {
         return Answered { state, number: n };
     }
-    paint(state, serial, palette.mask, table, clocks, blank, out);
+    run_bytes(state, serial, palette.mask, table, clocks, blank, out);
     let moved = state.clocks(clocks);
     let after = moved.state;
     Answered {

@@ -3,9 +3,9 @@ ghost use mathlib.Core.Path.{_≡_};
 ghost use mathlib.Core.List.{_++_};
 ghost use Prim.Native.Nat.{_+_, _-_, _*_, _≤_, _<_, min};
 ghost use lib.ListN.{length, take, drop};
-ghost use Rattle.vram.specs.Serial.{clocks as movedBy, words};
+ghost use Rattle.vram.specs.Serial.{clocks as movedBy, clockedWords};
 ghost use Rattle.vram.specs.Calls.{clocksRefusal};
-ghost use Rattle.panel.specs.Panel.{panelOf, bytesOf, shown, zeros, painted};
+ghost use Rattle.panel.specs.Panel.{panelOf, bytesOf, shown, zeros, runBytes};
 ghost use Rattle.numbers.specs.Buffer.{over};
 use crate::pixels::show_words;
 use vram::Vram;
@@ -27,7 +27,7 @@ fn stretch(
     done: u32,
 ) -> u32
     requires { ⌜ (clocksRefusal state clocks ≡ 0) × (length (now serial) ≡ 256) × (length (now table) ≡ 768) × (3 * clocks ≤ length (now out)) × (done < clocks) ⌝ }
-    ensures { λ r. ⌜ (done < r) × (r ≤ clocks) × (now (out .exit) ≡ take (3 * done) (now (out .entry)) ++ over (bytesOf (panelOf mask (now (table .entry))) (words (r - done) (movedBy done state) (now (serial .entry)))) (drop (3 * done) (now (out .entry)))) ⌝ }
+    ensures { λ r. ⌜ (done < r) × (r ≤ clocks) × (now (out .exit) ≡ take (3 * done) (now (out .entry)) ++ over (bytesOf (panelOf mask (now (table .entry))) (clockedWords (r - done) (movedBy done state) (now (serial .entry)))) (drop (3 * done) (now (out .entry)))) ⌝ }
 {
     let here = state.clocks(done);
     let count = least(here.through, clocks - done);
@@ -61,7 +61,7 @@ fn clear(out: &mut [u8], n: usize)
     }
 }
 
-pub(crate) fn paint(
+pub(crate) fn run_bytes(
     state: Vram,
     serial: &[u16],
     mask: u8,
@@ -71,7 +71,7 @@ pub(crate) fn paint(
     out: &mut [u8],
 )
     requires { ⌜ (clocksRefusal state clocks ≡ 0) × (length (now serial) ≡ 256) × (length (now table) ≡ 768) × (3 * clocks ≤ length (now out)) ⌝ }
-    ensures { λ r. ⌜ now (out .exit) ≡ over (painted (panelOf mask (now (table .entry))) blank clocks state (now (serial .entry))) (now (out .entry)) ⌝ }
+    ensures { λ r. ⌜ now (out .exit) ≡ over (runBytes (panelOf mask (now (table .entry))) blank clocks state (now (serial .entry))) (now (out .entry)) ⌝ }
 {
     if blank == 0 {
         show(state, serial, mask, table, clocks, out);

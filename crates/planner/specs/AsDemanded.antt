@@ -5,13 +5,13 @@ use mathlib.Core.List.{List}
 use Rattle.planner.specs.declared.Filled.{Filled}
 use Rattle.planner.specs.Fill.{Fill}
 use Rattle.planner.specs.Calls.{Outcome, outcome, fillCall}
-use Rattle.planner.specs.Paint.{Wide, written, Demanded}
+use Rattle.planner.specs.Paint.{Wide, listIn, Demanded}
 use Rattle.planner.specs.ItPaints.{it-paints, fill-paints}
 use Rattle.planner.specs.ItIsShortest.{it-is-shortest}
 use Rattle.planner.specs.ItCounts.{it-counts}
 
 abbrev AsDemanded : Fill → Outcome → Type 0
-AsDemanded f o = o .answer .number ≡ 0 → Demanded f (o .answer) (written o)
+AsDemanded f o = o .answer .number ≡ 0 → Demanded f (o .answer) (listIn o)
 
 pub as-demanded : (f : Fill) (out : List ℕ) → Wide f → AsDemanded f (fillCall f out)
 as-demanded f out wide z =
@@ -26,6 +26,6 @@ as-demanded f out wide z =
 -- the equation, and what is demanded beside it
 pub with-demand : (f : Fill) (out : List ℕ) {r : Filled} {out′ : List ℕ} → f .mask < 65536 → f .colour < 65536
     → outcome r out′ ≡ fillCall f out
-    → (outcome r out′ ≡ fillCall f out) × (r .number ≡ 0 → Demanded f r (written (outcome r out′)))
+    → (outcome r out′ ≡ fillCall f out) × (r .number ≡ 0 → Demanded f r (listIn (outcome r out′)))
 with-demand f out mask colour e =
     (e, subst (AsDemanded f) (sym e) (as-demanded f out (record { mask = mask; colour = colour })))

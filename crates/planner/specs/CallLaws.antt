@@ -18,11 +18,11 @@ use Rattle.numbers.specs.BufferLaws.{over-sets}
 use Rattle.list.specs.Encode.{encodeAll}
 use Rattle.list.specs.EncodedLaws.{encode-none}
 use Rattle.planner.specs.declared.Filled.{Filled}
-use Rattle.planner.specs.Fill.{Fill, fill, words, blocks, W, B, wordWrite, blockWrite, byWords, byBlocks, plan}
+use Rattle.planner.specs.Fill.{Fill, fill, coveredWords, touchedBlocks, W, B, wordWrite, blockWrite, byWords, byBlocks, plan}
 use Rattle.planner.specs.FillLaws.{Sound, across, words-closed, blocks-closed, plan-nothing, plan-words, plan-blocks}
 use Rattle.planner.specs.Bytes.{wordRows, loadBytes, columnsIn, blockRows}
 use Rattle.planner.specs.PlanLaws.{words-bytes, blocks-bytes}
-use Rattle.planner.specs.Calls.{rowsOk, rectangleOk, plainOk, roomOk, fillRefusal, askedRefusal, listOf, outcome, answered, stored, fillCall}
+use Rattle.planner.specs.Calls.{rowsOk, rectangleOk, plainOk, roomOk, fillRefusal, askedRefusal, listOf, outcome, fillAnswer, stored, fillCall}
 
 -- ---- 2, 12 and 13
 
@@ -69,7 +69,7 @@ abbrev pub filled : ℕ → ℕ → ℕ → Filled
 filled n bytes cycles = record { number = n; bytes = bytes; cycles = cycles }
 
 module _ (bytes : List ℕ) (cycles : ℕ) (out : List ℕ) where
-  refuses : (n : ℕ) → n ≢ 0 → outcome (filled n 0 0) out ≡ answered n bytes cycles out
+  refuses : (n : ℕ) → n ≢ 0 → outcome (filled n 0 0) out ≡ fillAnswer n bytes cycles out
   refuses n h = sym (rw (leaves-before n 0 (length bytes) h, leaves-before n 0 cycles h, leaves-before n out (over bytes out) h))
 
   pub stored-short : length out < length bytes → outcome (filled 15 0 0) out ≡ stored bytes cycles out
@@ -95,14 +95,14 @@ module _ (f : Fill) (out : List ℕ) where
   unfolding fillCall
   fill-refuses n e h =
       refuses (listOf f) (length (plan f)) out n h
-      ∙ ap (λ (x : ℕ). answered x (listOf f) (length (plan f)) out)
+      ∙ ap (λ (x : ℕ). fillAnswer x (listOf f) (length (plan f)) out)
       (e ∙ sym (asked-first f (length out) ∙ firstOf-first (askedRefusal f) (refuse (roomOk f (length out)) 15 0) (λ z. h (e ∙ z))))
 
   module _ (z : askedRefusal f ≡ 0) where
     pub fill-stores : fillCall f out ≡ stored (listOf f) (length (plan f)) out
     unfolding fillCall
     fill-stores =
-        ap (λ (x : ℕ). answered x (listOf f) (length (plan f)) out) (asked-first f (length out) ∙ firstOf-later (askedRefusal f) (refuse (roomOk f (length out)) 15 0) z)
+        ap (λ (x : ℕ). fillAnswer x (listOf f) (length (plan f)) out) (asked-first f (length out) ∙ firstOf-later (askedRefusal f) (refuse (roomOk f (length out)) 15 0) z)
 
     s : Sound f
     s = asked-sound f z
@@ -114,7 +114,7 @@ module _ (f : Fill) (out : List ℕ) where
     empty-plan : f .mask ≢ 0 → (f .endRow - f .firstRow) * (f .endColumn - f .firstColumn) ≡ 0 → plan f ≡ []
     empty-plan n e =
         let w : W f ≡ 0 = words-closed f s ∙ e in
-        plan-words f n (omega arith) ∙ ap (map (wordWrite f)) (none (words f) w)
+        plan-words f n (omega arith) ∙ ap (map (wordWrite f)) (none (coveredWords f) w)
       where
         none : (l : List ℕ) → length l ≡ 0 → l ≡ []
         none [] h = refl
@@ -160,7 +160,7 @@ module _ (f : Fill) (out : List ℕ) where
           stores (wordRows (f .firstColumn) (f .endColumn - f .firstColumn) (f .colour) (f .mask) (f .firstRow) (f .endRow - f .firstRow))
           ((f .endRow - f .firstRow) * (f .endColumn - f .firstColumn))
           (ap encodeAll x ∙ words-bytes f s)
-          (ap length x ∙ length-map (words f) (wordWrite f) ∙ words-closed f s)
+          (ap length x ∙ length-map (coveredWords f) (wordWrite f) ∙ words-closed f s)
 
       pub fill-blocks : (w b : ℕ) → w ≡ (f .endRow - f .firstRow) * (f .endColumn - f .firstColumn) → b ≡ (f .endRow - f .firstRow) * across f → 1 + b < w
           → stored
@@ -171,7 +171,7 @@ module _ (f : Fill) (out : List ℕ) where
           ≡ fillCall f out
       fill-blocks w b p q h =
           let x : plan f ≡ byBlocks f = plan-blocks f some-mask (omega (arith, words-closed f s, blocks-closed f s some-columns)) in
-          let l : length (map (blockWrite f) (blocks f)) ≡ B f = length-map (blocks f) (blockWrite f) in
+          let l : length (map (blockWrite f) (touchedBlocks f)) ≡ B f = length-map (touchedBlocks f) (blockWrite f) in
           stores _ (1 + (f .endRow - f .firstRow) * across f)
           (ap encodeAll x ∙ blocks-bytes f s some-columns)
           (ap length x ∙ omega (arith, blocks-closed f s some-columns))

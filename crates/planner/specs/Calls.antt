@@ -46,12 +46,12 @@ abbrev pub outcome : Filled → List ℕ → Outcome
 outcome r out = record { answer = r; buffer = out }
 
 -- a list of so many cycles at the start of the buffer, where n refuses nothing
-abbrev pub answered : ℕ → List ℕ → ℕ → List ℕ → Outcome
-answered n bytes cycles out =
+abbrev pub fillAnswer : ℕ → List ℕ → ℕ → List ℕ → Outcome
+fillAnswer n bytes cycles out =
     outcome (record { number = n; bytes = leaves n 0 (length bytes); cycles = leaves n 0 cycles }) (leaves n out (over bytes out))
 
 unfoldable pub fillCall : Fill → List ℕ → Outcome
-fillCall f out = answered (fillRefusal f (length out)) (listOf f) (length (plan f)) out
+fillCall f out = fillAnswer (fillRefusal f (length out)) (listOf f) (length (plan f)) out
 
 -- ---- its two parts: what is asked is refused before a byte is written, and then the buffer is asked
 
@@ -60,4 +60,4 @@ askedRefusal f = refuse (rowsOk f) 2 (refuse (rectangleOk f) 12 (refuse (plainOk
 
 -- a list at the start of the buffer, where there is room for it
 abbrev pub stored : List ℕ → ℕ → List ℕ → Outcome
-stored bytes cycles out = answered (refuse (leb (length bytes) (length out)) 15 0) bytes cycles out
+stored bytes cycles out = fillAnswer (refuse (leb (length bytes) (length out)) 15 0) bytes cycles out

@@ -8,12 +8,12 @@ use native.Mathlib.Nat.{mul-zero}
 use lib.Dec.{eqb}
 use lib.ListN.{length}
 use borrow.Author.Tests.{eqb-true, eqb-false}
-use Rattle.planner.specs.Fill.{Fill, touched, blocks, W, B, plan}
+use Rattle.planner.specs.Fill.{Fill, touched, touchedBlocks, W, B, plan}
 use Rattle.planner.specs.FillLaws.{Sound, across, inside-says, touched-says, words-closed, blocks-closed, plan-nothing, plan-length}
 use Rattle.planner.specs.SeriesLaws.{picked-none}
 use Rattle.planner.specs.Calls.{fillCall}
 use Rattle.planner.specs.CallLaws.{asked-sound}
-use Rattle.planner.specs.WrittenLaws.{accepted-asked, accepted-cycles}
+use Rattle.planner.specs.AcceptedLaws.{accepted-asked, accepted-cycles}
 
 abbrev pub height : Fill → ℕ
 height f = f .endRow - f .firstRow

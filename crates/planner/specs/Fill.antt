@@ -49,18 +49,18 @@ picked p at zero = []
 picked p at (suc n) = cond (p at) (at ∷ picked p (suc at) n) (picked p (suc at) n)
 
 -- the words covered and the blocks touched: rows go up, then columns
-abbrev pub words : Fill → List ℕ
-words f = picked (inside f) 0 (512 * f .rows)
+abbrev pub coveredWords : Fill → List ℕ
+coveredWords f = picked (inside f) 0 (512 * f .rows)
 
-abbrev pub blocks : Fill → List ℕ
-blocks f = picked (touched f) 0 (128 * f .rows)
+abbrev pub touchedBlocks : Fill → List ℕ
+touchedBlocks f = picked (touched f) 0 (128 * f .rows)
 
 -- how many they are
 abbrev pub W : Fill → ℕ
-W f = length (words f)
+W f = length (coveredWords f)
 
 abbrev pub B : Fill → ℕ
-B f = length (blocks f)
+B f = length (touchedBlocks f)
 
 -- ---- the cycles: each write masked with M, strobes both
 
@@ -78,10 +78,10 @@ blockWrite f k = BlockWrite (k / 128) (4 * (k % 128)) (columnsOf f k) 1 (f .mask
 -- ---- the list: words where W is at most 1 + B, else one colour load with both strobes and a block write for each block
 
 abbrev pub byWords : Fill → List Cycle
-byWords f = map (wordWrite f) (words f)
+byWords f = map (wordWrite f) (coveredWords f)
 
 abbrev pub byBlocks : Fill → List Cycle
-byBlocks f = LoadColour (f .colour) 3 ∷ map (blockWrite f) (blocks f)
+byBlocks f = LoadColour (f .colour) 3 ∷ map (blockWrite f) (touchedBlocks f)
 
 -- blocks are used
 abbrev pub usesBlocks : Fill → Bool

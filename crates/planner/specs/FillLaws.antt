@@ -10,7 +10,7 @@ use lib.Dec.{leb}
 use lib.ListN.{length, length-map}
 use borrow.Author.Tests.{eq-eqb, ne-eqb, leb-true, leb-false, le-leb, lt-leb}
 use Rattle.numbers.specs.Between.{between, both, same-truth, between-in, between-says}
-use Rattle.planner.specs.Fill.{Fill, inside, touched, words, blocks, W, B, wordWrite, blockWrite, byWords, byBlocks, plan}
+use Rattle.planner.specs.Fill.{Fill, inside, touched, coveredWords, touchedBlocks, W, B, wordWrite, blockWrite, byWords, byBlocks, plan}
 use Rattle.planner.specs.Bytes.{series}
 use Rattle.planner.specs.SeriesLaws.{all, series-length, picked-grid}
 
@@ -136,7 +136,7 @@ abbrev pub across : Fill → ℕ
 across f = (f .endColumn + 3) / 4 - f .firstColumn / 4
 
 module _ (f : Fill) (s : Sound f) where
-  pub words-rows : words f ≡ series (λ r. all (r * 512 + f .firstColumn) (f .endColumn - f .firstColumn)) (f .firstRow) (f .endRow - f .firstRow)
+  pub words-rows : coveredWords f ≡ series (λ r. all (r * 512 + f .firstColumn) (f .endColumn - f .firstColumn)) (f .firstRow) (f .endRow - f .firstRow)
   words-rows =
       picked-grid (inside f) 512 (f .rows) (f .firstRow) (f .endRow) (f .firstColumn) (f .endColumn) (s .row-order) (s .row-end) (s .column-order) (s .column-end) (inside-at f)
 
@@ -150,7 +150,7 @@ module _ (f : Fill) (s : Sound f) where
       (λ r. all-length (r * 512 + f .firstColumn) (f .endColumn - f .firstColumn)) (f .endRow - f .firstRow) (f .firstRow)
 
   module _ (n : f .firstColumn < f .endColumn) where
-    pub blocks-rows : blocks f ≡ series (λ r. all (r * 128 + f .firstColumn / 4) (across f)) (f .firstRow) (f .endRow - f .firstRow)
+    pub blocks-rows : touchedBlocks f ≡ series (λ r. all (r * 128 + f .firstColumn / 4) (across f)) (f .firstRow) (f .endRow - f .firstRow)
     blocks-rows =
         let e = s .column-end in
         picked-grid (touched f) 128 (f .rows) (f .firstRow) (f .endRow) (f .firstColumn / 4) ((f .endColumn + 3) / 4) (s .row-order) (s .row-end) (omega arith) (omega arith)
@@ -183,8 +183,8 @@ module _ (f : Fill) where
       go : (t : Bool) → leb (W f) (1 + B f) ≡ t → length (plan f) ≡ min (W f) (1 + B f)
       go true e =
           let h : W f ≤ 1 + B f = leb-true (W f) (1 + B f) e in
-          ap length (plan-words n h) ∙ length-map (words f) (wordWrite f) ∙ omega arith
+          ap length (plan-words n h) ∙ length-map (coveredWords f) (wordWrite f) ∙ omega arith
       go false e =
           let h : 1 + B f < W f = leb-false (W f) (1 + B f) e in
-          let l : length (map (blockWrite f) (blocks f)) ≡ B f = length-map (blocks f) (blockWrite f) in
+          let l : length (map (blockWrite f) (touchedBlocks f)) ≡ B f = length-map (touchedBlocks f) (blockWrite f) in
           ap length (plan-blocks n h) ∙ omega arith

@@ -8,11 +8,11 @@ use Rattle.list.specs.Meaning.{countOf}
 use Rattle.list.specs.EncodeLaws.{count-encodeAll}
 use Rattle.planner.specs.Fill.{Fill, plan}
 use Rattle.planner.specs.Calls.{fillCall}
-use Rattle.planner.specs.Paint.{written}
-use Rattle.planner.specs.WrittenLaws.{accepted-bytes, accepted-cycles, accepted-list}
+use Rattle.planner.specs.Paint.{listIn}
+use Rattle.planner.specs.AcceptedLaws.{accepted-bytes, accepted-cycles, accepted-list}
 
 pub it-counts : (f : Fill) (out : List ℕ) → fillCall f out .answer .number ≡ 0
-    → (fillCall f out .answer .cycles ≡ countOf (written (fillCall f out))) × (fillCall f out .answer .bytes ≡ length (written (fillCall f out)))
+    → (fillCall f out .answer .cycles ≡ countOf (listIn (fillCall f out))) × (fillCall f out .answer .bytes ≡ length (listIn (fillCall f out)))
 it-counts f out z = (
   accepted-cycles f out z ∙ sym (count-encodeAll (plan f)) ∙ sym (ap countOf (accepted-list f out z)),
   accepted-bytes f out z ∙ sym (ap length (accepted-list f out z)),

@@ -15,7 +15,7 @@ use Rattle.planner.specs.FillLaws.{plan-nothing, plan-length}
 use Rattle.planner.specs.Calls.{fillCall}
 use Rattle.planner.specs.CallLaws.{asked-sound}
 use Rattle.planner.specs.Paint.{Wide, Paints}
-use Rattle.planner.specs.WrittenLaws.{accepted-asked, accepted-cycles}
+use Rattle.planner.specs.AcceptedLaws.{accepted-asked, accepted-cycles}
 use Rattle.planner.specs.Least.{least}
 
 pub it-is-shortest : (f : Fill) (out : List ℕ) → Wide f → fillCall f out .answer .number ≡ 0

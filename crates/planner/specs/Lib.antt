@@ -11,7 +11,7 @@ pub mod PlanLaws
 pub mod CallLaws
 pub mod PaintLaws
 pub mod PlanPaints
-pub mod WrittenLaws
+pub mod AcceptedLaws
 pub mod Pigeon
 pub mod Bound
 pub mod PlanRuns

@@ -32,8 +32,8 @@ afterFill f b =
     board (withColour (b .state) (cond (usesBlocks f) (f .colour) (b .state .colour))) (painted f (b .memory)) (b .serial)
 
 -- the bytes that a fill has written
-abbrev pub written : Outcome → List ℕ
-written o = take (o .answer .bytes) (o .buffer)
+abbrev pub listIn : Outcome → List ℕ
+listIn o = take (o .answer .bytes) (o .buffer)
 
 -- ---- from where
 

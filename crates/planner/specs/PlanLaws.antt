@@ -15,7 +15,7 @@ use Rattle.vram.specs.declared.Cycle.{Cycle}
 use Rattle.vram.specs.declared.Cycle.the-variants.{LoadColour}
 use Rattle.list.specs.Encode.{encode, encodeAll}
 use Rattle.list.specs.EncodedLaws.{write, encode-word, encode-block, encode-colour, encode-none, encode-first, encode-append}
-use Rattle.planner.specs.Fill.{Fill, inside, blocks, wordWrite, columnsOf, blockWrite, byWords, byBlocks}
+use Rattle.planner.specs.Fill.{Fill, inside, touchedBlocks, wordWrite, columnsOf, blockWrite, byWords, byBlocks}
 use Rattle.planner.specs.FillLaws.{Sound, inside-at, words-rows, blocks-rows, across}
 use Rattle.planner.specs.Bytes.{series, placeOf, writeAt, loadBytes, rowBytes, wordRows, columnsIn, columnsAt, blockRow, blockRows}
 use Rattle.planner.specs.SeriesLaws.{all, series-cong, series-shift, series-length, series-through}
@@ -148,7 +148,7 @@ module _ (f : Fill) (s : Sound f) (some : f .firstColumn < f .endColumn) where
   unfolding blockRows
   blocks-bytes =
       let o = s .row-order in
-      encode-first (LoadColour (f .colour) 3) (map (blockWrite f) (blocks f))
+      encode-first (LoadColour (f .colour) 3) (map (blockWrite f) (touchedBlocks f))
       ∙ ap₂ (λ (x y : List ℕ). x ++ y) (encode-colour (f .colour) 3)
       (ap (λ (l : List ℕ). encodeAll (map (blockWrite f) l)) (blocks-rows f s some)
       ∙ through (blockWrite f) (λ r. all (r * 128 + f .firstColumn / 4) (across f)) (f .endRow - f .firstRow) (f .firstRow)

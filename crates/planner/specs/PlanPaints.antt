@@ -22,7 +22,7 @@ use Rattle.vram.specs.CaseLaws.{run-none, run-next, number-is, word-accepted, b
 use Rattle.vram.specs.KeptLaws.{only-memory}
 use Rattle.vram.specs.RuleLaws.{step-sized}
 use Rattle.vram.specs.CycleLaws.{word-write-at, block-write-at, allowed-given}
-use Rattle.planner.specs.Fill.{Fill, inside, touched, picked, words, blocks, wordWrite, columnsOf, blockWrite, byWords}
+use Rattle.planner.specs.Fill.{Fill, inside, touched, picked, coveredWords, touchedBlocks, wordWrite, columnsOf, blockWrite, byWords}
 use Rattle.planner.specs.FillLaws.{Sound, inside-says, touched-in}
 use Rattle.planner.specs.Paint.{painted, Memory}
 use Rattle.planner.specs.PaintLaws.{drawn, drawn-at, drawn-cong, drawn-none, drawn-twice, drawn-memory, mapAt-length}
@@ -194,7 +194,7 @@ module _ (f : Fill) (rows : ℕ) (s : Vram) (r : List ℕ) (g : given s (512 * r
         ∙ units f rows s r (λ a. a) (inside f) (wordWrite f) (512 * rows) (λ a e. e) (λ x m l i k. word-one m k x l i) (512 * rows) 0 m (omega arith) k
         ∙ ap (λ (l : List ℕ). board s l r) (drawn-cong f (λ a. between 0 (0 + 512 * rows) a && inside f a) (inside f) (whole (λ a. a) (512 * rows) (λ a l. l)) m)
 
-    pub blocks-paint : s .colour ≡ f .colour → (m : List ℕ) → Memory rows m → run (map (blockWrite f) (blocks f)) (board s m r) ≡ board s (painted f m) r
+    pub blocks-paint : s .colour ≡ f .colour → (m : List ℕ) → Memory rows m → run (map (blockWrite f) (touchedBlocks f)) (board s m r) ≡ board s (painted f m) r
     blocks-paint c m k =
         ap (λ (n : ℕ). run (map (blockWrite f) (picked (touched f) 0 (128 * n))) (board s m r)) same
         ∙ units f rows s r (λ a. a / 4) (touched f) (blockWrite f) (128 * rows) missed (λ x m l i k. block-one m k c x l) (128 * rows) 0 m (omega arith) k

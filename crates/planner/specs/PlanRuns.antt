@@ -25,13 +25,13 @@ use Rattle.vram.specs.RuleLaws.{step-given}
 use Rattle.vram.specs.CycleLaws.{colour-load}
 use Rattle.list.specs.Meaning.{bad, gives, runCall}
 use Rattle.list.specs.EncodedLaws.{encoded-run}
-use Rattle.planner.specs.Fill.{Fill, inside, blocks, W, B, blockWrite, byWords, byBlocks, usesBlocks, plan}
+use Rattle.planner.specs.Fill.{Fill, inside, touchedBlocks, W, B, blockWrite, byWords, byBlocks, usesBlocks, plan}
 use Rattle.planner.specs.FillLaws.{Sound}
 use Rattle.planner.specs.Calls.{listOf}
 use Rattle.planner.specs.Paint.{painted, Wide, Memory, Start}
 use Rattle.planner.specs.PaintLaws.{painted-length, drawn-at}
 use Rattle.planner.specs.PlanPaints.{words-paint, blocks-paint}
-use Rattle.planner.specs.WrittenLaws.{plan-accepted}
+use Rattle.planner.specs.AcceptedLaws.{plan-accepted}
 
 -- through a mask of 0 nothing is drawn
 painted-nothing : (f : Fill) (m : List ℕ) → f .mask ≡ 0 → Memory (f .rows) m → painted f m ≡ m
@@ -73,8 +73,8 @@ module _ (f : Fill) (sound : Sound f) (wide : Wide f) (b : Board) (start : Start
   blocks-run : run (byBlocks f) b ≡ board inked (painted f (b .memory)) (b .serial)
   unfolding inked
   blocks-run =
-      run-next step (LoadColour (f .colour) 3) (map (blockWrite f) (blocks f)) b
-      ∙ ap (run (map (blockWrite f) (blocks f))) load
+      run-next step (LoadColour (f .colour) 3) (map (blockWrite f) (touchedBlocks f)) b
+      ∙ ap (run (map (blockWrite f) (touchedBlocks f))) load
       ∙ blocks-paint f (f .rows) inked (b .serial) given-inked (start .plain) sound refl refl (b .memory) (start .memory)
 
   abbrev left : Bool → Board

@@ -5,7 +5,7 @@ ghost use mathlib.Core.Path.{_≡_};
 ghost use Prim.Native.Nat.{_≤_, _*_};
 ghost use Rattle.planner.specs.Fill.{fill};
 ghost use Rattle.planner.specs.Calls.{outcome, askedRefusal, fillCall};
-ghost use Rattle.planner.specs.Paint.{written, Demanded};
+ghost use Rattle.planner.specs.Paint.{listIn, Demanded};
 
 mod columns;
 mod lists;
@@ -70,7 +70,7 @@ pub extern "C" fn linkshoar_fill(
     list: &mut [u8],
 ) -> Filled
     ensures outcome { λ r. ⌜ outcome r (now (list .exit)) ≡ fillCall (fill rows «first_row» «end_row» «first_column» «end_column» mask colour persistent) (now (list .entry)) ⌝ }
-    ensures demand { λ r. ⌜ (r .number ≡ 0 → Demanded (fill rows «first_row» «end_row» «first_column» «end_column» mask colour persistent) r (written (outcome r (now (list .exit))))) ⌝ }
+    ensures demand { λ r. ⌜ (r .number ≡ 0 → Demanded (fill rows «first_row» «end_row» «first_column» «end_column» mask colour persistent) r (listIn (outcome r (now (list .exit))))) ⌝ }
 {
     let n = refusal(
         rows,

@@ -15,7 +15,7 @@ use Rattle.vram.specs.declared.Moved.{Moved}
 use Rattle.vram.specs.declared.Word.{Word}
 use Rattle.vram.specs.State.{ruled}
 use Rattle.vram.specs.Board.{Board, board}
-use Rattle.vram.specs.Refusal.{readRefusal}
+use Rattle.vram.specs.Refusal.{wordReadRefusal}
 use Rattle.vram.specs.Step.{number, step}
 use Rattle.vram.specs.Serial.{through, clock, clocks}
 
@@ -42,9 +42,9 @@ pub record Transferred (n : ℕ) (s made : Vram) (r copied : List ℕ) (given : 
 
 -- ---- a word read
 
-unfoldable pub readCall : List ℕ → ℕ → ℕ → ℕ → Word
-readCall m row column strobes =
-    let n = readRefusal (length m) row column strobes in
+unfoldable pub wordReadCall : List ℕ → ℕ → ℕ → ℕ → Word
+wordReadCall m row column strobes =
+    let n = wordReadRefusal (length m) row column strobes in
     record { number = n; word = leaves n 0 (merged 0 (getD m (512 * row + column) 0) (covers strobes)) }
 
 -- ---- a serial clock

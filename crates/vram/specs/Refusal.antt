@@ -27,5 +27,5 @@ refusal rows loaded (SplitTransfer row half tap) = splitRefusal rows loaded row 
 
 -- ---- a word read
 
-unfoldable pub readRefusal : ℕ → ℕ → ℕ → ℕ → ℕ
-readRefusal words row column strobes = refuse (fitted words) 2 (placed (words / 512) row column strobes 0)
+unfoldable pub wordReadRefusal : ℕ → ℕ → ℕ → ℕ → ℕ
+wordReadRefusal words row column strobes = refuse (fitted words) 2 (placed (words / 512) row column strobes 0)

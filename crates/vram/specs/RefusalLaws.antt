@@ -12,7 +12,7 @@ use Rattle.vram.specs.declared.Vram.{Vram}
 use Rattle.vram.specs.State.{ruled}
 use Rattle.refusals.specs.Refusal.{fitted}
 use Rattle.refusals.specs.RefusalLaws.{Placed}
-use Rattle.vram.specs.Refusal.{given, readRefusal}
+use Rattle.vram.specs.Refusal.{given, wordReadRefusal}
 
 -- ---- the state and the lengths given
 
@@ -41,8 +41,8 @@ given-rule s t words serial e = rw e
 
 -- ---- a word read
 
-pub read-zero : (words row column strobes : ℕ) → readRefusal words row column strobes ≡ 0 → Placed (words / 512) row column × (words ≤ 262144)
-unfolding readRefusal
+pub read-zero : (words row column strobes : ℕ) → wordReadRefusal words row column strobes ≡ 0 → Placed (words / 512) row column × (words ≤ 262144)
+unfolding wordReadRefusal
 read-zero words row column strobes e =
     let o = refuse-zero (fitted words) 1 _ e in
     let p = refuse-zero (ltb row (words / 512)) 4 _ (o .1) in

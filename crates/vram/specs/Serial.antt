@@ -34,9 +34,9 @@ unfoldable pub clocksIn : ℕ → ℕ → Vram → Vram
 clocksIn n zero s = s
 clocksIn n (suc k) s = clocksIn n k (clockIn n s)
 
-unfoldable pub wordsIn : ℕ → ℕ → Vram → List ℕ → List ℕ
-wordsIn n zero s r = []
-wordsIn n (suc k) s r = getD r (s .pointer) 0 ∷ wordsIn n k (clockIn n s) r
+unfoldable pub clockedWordsIn : ℕ → ℕ → Vram → List ℕ → List ℕ
+clockedWordsIn n zero s r = []
+clockedWordsIn n (suc k) s r = getD r (s .pointer) 0 ∷ clockedWordsIn n k (clockIn n s) r
 
 -- ---- by the length of the state's own partitions: a half of the register
 
@@ -52,5 +52,5 @@ clock s = clockIn (lengthOf s) s
 abbrev pub clocks : ℕ → Vram → Vram
 clocks k s = clocksIn (lengthOf s) k s
 
-abbrev pub words : ℕ → Vram → List ℕ → List ℕ
-words k s r = wordsIn (lengthOf s) k s r
+abbrev pub clockedWords : ℕ → Vram → List ℕ → List ℕ
+clockedWords k s r = clockedWordsIn (lengthOf s) k s r

@@ -13,7 +13,7 @@ use Rattle.vram.specs.declared.Vram.{Vram}
 use Rattle.vram.specs.declared.Waiting.{Waiting}
 use Rattle.vram.specs.declared.Waiting.the-variants.{None, Tap}
 use Rattle.vram.specs.State.{withSerial}
-use Rattle.vram.specs.Serial.{at, after, throughIn, moved, clockIn, clocksIn, wordsIn, lengthOf, through, clock, clocks, words}
+use Rattle.vram.specs.Serial.{at, after, throughIn, moved, clockIn, clocksIn, clockedWordsIn, lengthOf, through, clock, clocks, clockedWords}
 
 -- ---- a run of clocks is a run and then a run
 
@@ -24,21 +24,21 @@ clocksIn-add n (suc j) k s =
     let e : suc j + k ≡ suc (j + k) = omega arith in
     rw e (clocksIn-add n j k (clockIn n s))
 
-pub wordsIn-add : (n j k : ℕ) (s : Vram) (r : List ℕ) → wordsIn n (j + k) s r ≡ wordsIn n j s r ++ wordsIn n k (clocksIn n j s) r
-unfolding wordsIn clocksIn
-wordsIn-add n zero k s r = ap (λ (x : ℕ). wordsIn n x s r) (zero-add k)
-wordsIn-add n (suc j) k s r =
+pub clockedWordsIn-add : (n j k : ℕ) (s : Vram) (r : List ℕ) → clockedWordsIn n (j + k) s r ≡ clockedWordsIn n j s r ++ clockedWordsIn n k (clocksIn n j s) r
+unfolding clockedWordsIn clocksIn
+clockedWordsIn-add n zero k s r = ap (λ (x : ℕ). clockedWordsIn n x s r) (zero-add k)
+clockedWordsIn-add n (suc j) k s r =
     let e : suc j + k ≡ suc (j + k) = omega arith in
-    rw e (ap (λ (t : List ℕ). getD r (s .pointer) 0 ∷ t) (wordsIn-add n j k (clockIn n s) r))
+    rw e (ap (λ (t : List ℕ). getD r (s .pointer) 0 ∷ t) (clockedWordsIn-add n j k (clockIn n s) r))
 
-pub wordsIn-none : (n : ℕ) (s : Vram) (r : List ℕ) → wordsIn n 0 s r ≡ []
-unfolding wordsIn
-wordsIn-none n s r = refl
+pub clockedWordsIn-none : (n : ℕ) (s : Vram) (r : List ℕ) → clockedWordsIn n 0 s r ≡ []
+unfolding clockedWordsIn
+clockedWordsIn-none n s r = refl
 
-pub wordsIn-length : (n k : ℕ) (s : Vram) (r : List ℕ) → length (wordsIn n k s r) ≡ k
-unfolding wordsIn
-wordsIn-length n zero s r = refl
-wordsIn-length n (suc k) s r = ap suc (wordsIn-length n k (clockIn n s) r)
+pub clockedWordsIn-length : (n k : ℕ) (s : Vram) (r : List ℕ) → length (clockedWordsIn n k s r) ≡ k
+unfolding clockedWordsIn
+clockedWordsIn-length n zero s r = refl
+clockedWordsIn-length n (suc k) s r = ap suc (clockedWordsIn-length n k (clockIn n s) r)
 
 pub clockIn-is : (n : ℕ) (s : Vram) → clockIn n s ≡ clocksIn n 1 s
 unfolding clocksIn
@@ -90,17 +90,17 @@ module _ (n : ℕ) (P : Partition n) where
       let e : s .pointer + suc k ≡ s .pointer + 1 + k = omega arith in
       rw (clockIn-within s p (omega arith), e) (clocksIn-within k (at s (s .pointer + 1) (s .waiting)) (g .0) (rw (g .1) (omega arith)))
 
-  pub wordsIn-within : (k : ℕ) (s : Vram) (r : List ℕ) → s .pointer < 256 → s .pointer % n + k ≤ n → s .pointer + k ≤ length r
-      → wordsIn n k s r ≡ take k (drop (s .pointer) r)
-  unfolding wordsIn
-  wordsIn-within zero s r p h l = refl
-  wordsIn-within (suc zero) s r p h l = rw (drop-cons r (s .pointer) 0 (omega arith))
-  wordsIn-within (suc (suc k)) s r p h l =
+  pub clockedWordsIn-within : (k : ℕ) (s : Vram) (r : List ℕ) → s .pointer < 256 → s .pointer % n + k ≤ n → s .pointer + k ≤ length r
+      → clockedWordsIn n k s r ≡ take k (drop (s .pointer) r)
+  unfolding clockedWordsIn
+  clockedWordsIn-within zero s r p h l = refl
+  clockedWordsIn-within (suc zero) s r p h l = rw (drop-cons r (s .pointer) 0 (omega arith))
+  clockedWordsIn-within (suc (suc k)) s r p h l =
       let g = P .next (s .pointer) p (omega arith) in
       let e : s .pointer + 1 ≡ suc (s .pointer) = omega arith in
       rw (drop-cons r (s .pointer) 0 (omega arith), clockIn-within s p (omega arith))
       (ap (λ (t : List ℕ). getD r (s .pointer) 0 ∷ t)
-      (wordsIn-within (suc k) (at s (s .pointer + 1) (s .waiting)) r (g .0) (rw (g .1) (omega arith)) (omega arith)
+      (clockedWordsIn-within (suc k) (at s (s .pointer + 1) (s .waiting)) r (g .0) (rw (g .1) (omega arith)) (omega arith)
       ∙ ap (λ (x : ℕ). take (suc k) (drop x r)) e))
 
 -- ---- where nothing waits the pointer goes round
@@ -190,14 +190,14 @@ clocks-length k s = ap lengthOf (clocks-keep k s) ∙ length-kept s (clocks k s 
 pub clocks-add : (j k : ℕ) (s : Vram) → clocks (j + k) s ≡ clocks k (clocks j s)
 clocks-add j k s = clocksIn-add (lengthOf s) j k s ∙ ap (λ (n : ℕ). clocksIn n k (clocks j s)) (sym (clocks-length j s))
 
-pub words-add : (j k : ℕ) (s : Vram) (r : List ℕ) → words (j + k) s r ≡ words j s r ++ words k (clocks j s) r
-words-add j k s r = wordsIn-add (lengthOf s) j k s r ∙ ap (λ (n : ℕ). words j s r ++ wordsIn n k (clocks j s) r) (sym (clocks-length j s))
+pub clockedWords-add : (j k : ℕ) (s : Vram) (r : List ℕ) → clockedWords (j + k) s r ≡ clockedWords j s r ++ clockedWords k (clocks j s) r
+clockedWords-add j k s r = clockedWordsIn-add (lengthOf s) j k s r ∙ ap (λ (n : ℕ). clockedWords j s r ++ clockedWordsIn n k (clocks j s) r) (sym (clocks-length j s))
 
-pub words-none : (s : Vram) (r : List ℕ) → words 0 s r ≡ []
-words-none s r = wordsIn-none (lengthOf s) s r
+pub clockedWords-none : (s : Vram) (r : List ℕ) → clockedWords 0 s r ≡ []
+clockedWords-none s r = clockedWordsIn-none (lengthOf s) s r
 
-pub words-length : (k : ℕ) (s : Vram) (r : List ℕ) → length (words k s r) ≡ k
-words-length k s r = wordsIn-length (lengthOf s) k s r
+pub clockedWords-length : (k : ℕ) (s : Vram) (r : List ℕ) → length (clockedWords k s r) ≡ k
+clockedWords-length k s r = clockedWordsIn-length (lengthOf s) k s r
 
 module _ (s : Vram) (p : s .pointer < 256) where
   -- the end of a partition is some clocks off, and within the register
@@ -205,7 +205,7 @@ module _ (s : Vram) (p : s .pointer < 256) where
   through-within = throughIn-within (lengthOf s) (partition s) (s .pointer) p
 
   -- as many words as lie before it are that many places in order
-  pub words-within : (k : ℕ) (r : List ℕ) → k ≤ through s → s .pointer + k ≤ length r → words k s r ≡ take k (drop (s .pointer) r)
-  words-within k r h l =
+  pub clockedWords-within : (k : ℕ) (r : List ℕ) → k ≤ through s → s .pointer + k ≤ length r → clockedWords k s r ≡ take k (drop (s .pointer) r)
+  clockedWords-within k r h l =
       let w = partition s .within (s .pointer) in
-      wordsIn-within (lengthOf s) (partition s) k s r p (omega arith) l
+      clockedWordsIn-within (lengthOf s) (partition s) k s r p (omega arith) l

@@ -5,7 +5,7 @@
 // table of document 01 allows 0 to 127.
 ghost use mathlib.Core.Path.{_≡_};
 ghost use Rattle.vram.specs.State.{fresh};
-ghost use Rattle.vram.specs.Calls.{readCall};
+ghost use Rattle.vram.specs.Calls.{wordReadCall};
 
 mod cycles;
 mod memory;
@@ -117,7 +117,7 @@ impl Vram {
 
 // A word read: the word, with 0 in a byte not strobed.
 pub fn read(memory: &[u16], row: u32, column: u32, strobes: u32) -> Word
-    ensures { λ r. ⌜ r ≡ readCall (now (memory .entry)) row column strobes ⌝ }
+    ensures { λ r. ⌜ r ≡ wordReadCall (now (memory .entry)) row column strobes ⌝ }
 {
     let n = placed(memory.len() / 512, row, column, strobes, numbers::DONE);
     let n = refuse(fitted(memory.len()), numbers::MEMORY_LENGTH, n);

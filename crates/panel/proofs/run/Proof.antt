@@ -12,8 +12,8 @@ refusal-requires c κs = search needs
 returns : tie.Need-returns
 returns c = run-refuses _ _ _ _ _ _ _ _ (c .before .refusal .ensures) (c .if1 .taken)
 
-paint-requires : tie.Need-paint-requires
-paint-requires c κs =
+run-bytes-requires : tie.Need-run-bytes-requires
+run-bytes-requires c κs =
     let e = c .before in
     let a = e .before .before .before .before .before .args in
     let z = run-zero (a .state) (a .palette) (length (a .serial .now)) (length (a .table .now)) (a .clocks) (length (a .out .now)) (sym (e .before .refusal .ensures) ∙ e .if1 .left) in
@@ -30,9 +30,9 @@ returns-2 c =
     let d = c .before in
     let w = d .before .before .before in
     let e = w .before .before in
-    run-acts _ _ _ _ _ _ _ _ (e .before .refusal .ensures) (e .if1 .left) (d .clocks .result) _ (d .clocks .ensures) (w .paint .ensures)
+    run-acts _ _ _ _ _ _ _ _ (e .before .refusal .ensures) (e .if1 .left) (d .clocks .result) _ (d .clocks .ensures) (w .run-bytes .ensures)
 
 pub run-spec : {M : Type 1} → statement M
 run-spec =
     tie.close
-    (tie.spec refusal-requires returns paint-requires clocks-requires same-length returns-2)
+    (tie.spec refusal-requires returns run-bytes-requires clocks-requires same-length returns-2)

@@ -6,8 +6,8 @@ use lib.ListN.{length, getD}
 use Rattle.numbers.specs.RefuseLaws.{refused-is, done-is}
 use Rattle.words.specs.Word.{merged, covers}
 use Rattle.words.specs.WordLaws.{merged-by-mask}
-use Rattle.vram.specs.Refusal.{readRefusal}
-use Rattle.vram.specs.Calls.{readCall}
+use Rattle.vram.specs.Refusal.{wordReadRefusal}
+use Rattle.vram.specs.Calls.{wordReadCall}
 use Rattle.refusals.specs.RefusalLaws.{word-within}
 use Rattle.vram.specs.RefusalLaws.{read-zero}
 use Rattle.vram.proofs.Clocks.{worded}
@@ -25,13 +25,13 @@ refuse-requires : tie.Need-refuse-requires
 refuse-requires c κs = search needs
 
 returns : tie.Need-returns
-unfolding readCall readRefusal
+unfolding wordReadCall wordReadRefusal
 returns c =
     let d = c .before in
     refused-is worded _ _ _ _ (rw (d .before .fitted .ensures, d .before .before .placed .ensures) at (d .refuse .ensures)) (c .if1 .taken)
 
 place-requires : tie.Need-place-requires
-unfolding readRefusal
+unfolding wordReadRefusal
 place-requires c κs =
     let d = c .before in
     let a = d .before .before .before .before .args in
@@ -43,7 +43,7 @@ mul-merge : tie.Need-mul-merge
 mul-merge c = search needs
 
 shared-slice-read-merge : tie.Need-shared-slice-read-merge
-unfolding readRefusal
+unfolding wordReadRefusal
 shared-slice-read-merge c =
     let e = c .before .before in
     let d = e .before in
@@ -59,7 +59,7 @@ merge-requires : tie.Need-merge-requires
 merge-requires c κs = search needs
 
 returns-2 : tie.Need-returns-2
-unfolding readCall readRefusal
+unfolding wordReadCall wordReadRefusal
 returns-2 c =
     let s = c .before in
     let p = s .before .before in

@@ -1,7 +1,7 @@
 -- `palette::Palette::write` meets its contract. Assumes nothing.
 use mathlib.Core.Path.{sym, _∙_}
 use lib.ListN.{length}
-use Rattle.palette.specs.Calls.{writeRefusal}
+use Rattle.palette.specs.Calls.{paletteWriteRefusal}
 use Rattle.palette.specs.CallLaws.{write-zero, write-refused, write-done}
 use borrow.Author.Needs.{needs}
 use Rattle.palette.proofs.Palette.write.Statement.{statement}
@@ -20,7 +20,7 @@ refuse-requires-3 : tie.Need-refuse-requires-3
 refuse-requires-3 c κs = search needs
 
 returns : tie.Need-returns
-unfolding writeRefusal
+unfolding paletteWriteRefusal
 returns c =
     let d = c .before in
     let a = d .before .before .before .before .before .args in
@@ -28,9 +28,9 @@ returns c =
     (rw (d .before .ruled .ensures, d .before .before .refuse2 .ensures, d .before .before .before .refuse .ensures) at (d .refuse3 .ensures))
     (c .if1 .taken)
 
-written-requires : tie.Need-written-requires
-unfolding writeRefusal
-written-requires c κs =
+after-write-requires : tie.Need-after-write-requires
+unfolding paletteWriteRefusal
+after-write-requires c κs =
     let i = c .before in
     let d = i .before in
     let a = d .before .before .before .before .before .args in
@@ -41,7 +41,7 @@ same-length : tie.Need-same-length
 same-length c = search needs
 
 returns-2 : tie.Need-returns-2
-unfolding writeRefusal
+unfolding paletteWriteRefusal
 returns-2 c =
     let w = c .before .before in
     let i = w .before .before in
@@ -49,7 +49,7 @@ returns-2 c =
     let a = d .before .before .before .before .before .args in
     write-done (a .self) (a .table .now) (a .select) (a .value) (d .refuse3 .result)
     (rw (d .before .ruled .ensures, d .before .before .refuse2 .ensures, d .before .before .before .refuse .ensures) at (d .refuse3 .ensures))
-    (i .if1 .left) (w .written .ensures .0) (w .written .ensures .1)
+    (i .if1 .left) (w .after-write .ensures .0) (w .after-write .ensures .1)
 
 pub write-spec : {M : Type 1} → statement M
 write-spec =
@@ -60,6 +60,6 @@ write-spec =
     ruled-requires
     refuse-requires-3
     returns
-    written-requires
+    after-write-requires
     same-length
     returns-2)

@@ -6,7 +6,7 @@ use native.Mathlib.Omega.{arith}
 use lib.ListN.{take, drop}
 use Rattle.vram.specs.declared.Vram.{Vram}
 use Rattle.vram.specs.declared.Moved.{Moved}
-use Rattle.vram.specs.Serial.{through, clocks as moved, words}
+use Rattle.vram.specs.Serial.{through, clocks as moved, clockedWords}
 use Rattle.vram.specs.Calls.{clocksRefusal, clocksCall}
 use Rattle.vram.specs.SerialLaws.{through-within}
 use Rattle.vram.specs.CallLaws.{clocks-moves, clocks-leads, clocks-fewer}
@@ -100,7 +100,7 @@ returns c =
       one-stretch (panelOf (a .mask) (a .table .now)) (a .serial .now) (a .out .now) _ here (3 * a .done) (m .least .result) p
           (omega (arith, m .least .ensures, t .1)) (omega (arith, m .least .ensures, t .1, q .1, s .pre .1)) (a .done + m .least .result - a .done) (omega arith)
           (omega (arith, s .pre .3)) (w .show-words .ensures)
-          ∙ ap (λ (x : Vram). take (3 * a .done) (a .out .now) ++ over (bytesOf (panelOf (a .mask) (a .table .now)) (words (a .done + m .least .result - a .done) x (a .serial .now))) (drop (3 * a .done) (a .out .now))) (t .0),
+          ∙ ap (λ (x : Vram). take (3 * a .done) (a .out .now) ++ over (bytesOf (panelOf (a .mask) (a .table .now)) (clockedWords (a .done + m .least .result - a .done) x (a .serial .now))) (drop (3 * a .done) (a .out .now))) (t .0),
     )
 
 pub stretch-spec : {M : Type 1} → statement M

@@ -1,8 +1,8 @@
--- `panel::stretches::paint` meets its contract. Assumes nothing.
+-- `panel::stretches::run_bytes` meets its contract. Assumes nothing.
 use borrow.Author.Tests.{eq-eqb, ne-eqb}
 use borrow.Author.Needs.{needs}
-use Rattle.panel.proofs.stretches.paint.Statement.{statement}
-use Rattle.panel.proofs.stretches.paint.Tie as tie
+use Rattle.panel.proofs.stretches.run_bytes.Statement.{statement}
+use Rattle.panel.proofs.stretches.run_bytes.Tie as tie
 
 show-requires : tie.Need-show-requires
 show-requires c κs = search needs
@@ -25,7 +25,7 @@ same-length-2 c = search needs
 returns-2 : tie.Need-returns-2
 returns-2 c = rw (ne-eqb _ _ (c .before .before .before .before .if1 .left)) (c .before .before .clear .ensures)
 
-pub paint-spec : {M : Type 1} → statement M
-paint-spec =
+pub run-bytes-spec : {M : Type 1} → statement M
+run-bytes-spec =
     tie.close
     (tie.spec show-requires mul-clear clear-requires same-length returns same-length-2 returns-2)

@@ -15,10 +15,10 @@ use Rattle.vram.specs.declared.Cycle.{Cycle}
 use Rattle.vram.specs.declared.Cycle.the-variants.{LoadColour}
 use Rattle.vram.specs.Refusal.{refusal}
 use Rattle.vram.specs.CaseLaws.{word-accepted, block-accepted, colour-accepted}
-use Rattle.planner.specs.Fill.{Fill, inside, touched, picked, words, blocks, W, B, wordWrite, columnsOf, blockWrite, byWords, byBlocks, plan}
+use Rattle.planner.specs.Fill.{Fill, inside, touched, picked, coveredWords, touchedBlocks, W, B, wordWrite, columnsOf, blockWrite, byWords, byBlocks, plan}
 use Rattle.planner.specs.Calls.{askedRefusal, roomOk, fillRefusal, listOf, fillCall}
 use Rattle.planner.specs.CallLaws.{asked-first}
-use Rattle.planner.specs.Paint.{written}
+use Rattle.planner.specs.Paint.{listIn}
 
 -- ---- an accepted fill
 
@@ -41,7 +41,7 @@ module _ (f : Fill) (out : List ℕ) (z : fillCall f out .answer .number ≡ 0) 
   accepted-buffer = leaves-made (fillRefusal f (length out)) out (over (listOf f) out) z
 
   -- and the bytes written are the list
-  pub accepted-list : written (fillCall f out) ≡ listOf f
+  pub accepted-list : listIn (fillCall f out) ≡ listOf f
   accepted-list = ap₂ (λ (n : ℕ) (t : List ℕ). take n t) accepted-bytes accepted-buffer ∙ take-over (listOf f) out
 
 -- ---- no cycle of the plan is refused
@@ -60,7 +60,7 @@ picked-says p (suc n) at x m = go (p at) refl m (picked-says p n (suc at) x)
 module _ (f : Fill) where
   words-accepted : (c : Cycle) → List·Memᴰ c (byWords f) → (made : Bool) → refusal (f .rows) made c ≡ 0
   words-accepted c m made =
-      let o = Memᴰ·of-map (wordWrite f) (words f) m in
+      let o = Memᴰ·of-map (wordWrite f) (coveredWords f) m in
       let x : ℕ = o .0 in
       let p = picked-says (inside f) (512 * f .rows) 0 x (o .1) in
       subst (λ (d : Cycle). refusal (f .rows) made d ≡ 0) (o .2)
@@ -72,9 +72,9 @@ module _ (f : Fill) where
       first : c ≡ LoadColour (f .colour) 3 → refusal (f .rows) made c ≡ 0
       first e = ap (refusal (f .rows) made) e ∙ colour-accepted (f .rows) made (f .colour)
 
-      rest : List·Memᴰ c (map (blockWrite f) (blocks f)) → refusal (f .rows) made c ≡ 0
+      rest : List·Memᴰ c (map (blockWrite f) (touchedBlocks f)) → refusal (f .rows) made c ≡ 0
       rest k =
-          let o = Memᴰ·of-map (blockWrite f) (blocks f) k in
+          let o = Memᴰ·of-map (blockWrite f) (touchedBlocks f) k in
           let x : ℕ = o .0 in
           let p = picked-says (touched f) (128 * f .rows) 0 x (o .1) in
           subst (λ (d : Cycle). refusal (f .rows) made d ≡ 0) (o .2)
