@@ -1,5 +1,10 @@
--- The Am8150's C interface: the state as C has it, and what each export answers.
+-- The Am8150's C interface.
+
+-- the state as C has it
 pub mod State
+-- what each export answers
 pub mod Calls
+-- the state there and back
 pub mod StateLaws
+-- a refusal hands the state back; a session in C is the session below
 pub mod CallLaws

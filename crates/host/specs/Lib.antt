@@ -1,5 +1,10 @@
--- The C interface: the state as C has it, and what each export answers.
+-- The C interface.
+
+-- the video RAM's state as C has it
 pub mod State
+-- what each export answers
 pub mod Calls
+-- the state there and back
 pub mod StateLaws
+-- a refusal hands the state back; a call on a state handed to C is the call below
 pub mod CallLaws

@@ -1,20 +1,40 @@
 -- The rules of document 01, "Lists and fills", and the laws about them.
+
+-- what a tag and a body mean
 pub mod Tags
+-- bytes as fields
 pub mod Fields
+-- the verdict, and the call
 pub mod Meaning
+-- cycles as bytes
 pub mod Encode
+-- what fields leave together
 pub mod Joined
+-- bytes that more bytes may make a field of
 pub mod Waits
+-- the field at the head of some bytes
 pub mod Heads
+-- what the tag table comes to, tag by tag
 pub mod TagLaws
+-- of the splitting into fields
 pub mod FieldLaws
+-- the verdict, field by field
 pub mod VerdictLaws
+-- of the call, by any engine
 pub mod CallLaws
+-- how many bytes and cycles a list has
 pub mod CountLaws
+-- an accepted list performs every field
 pub mod PerformLaws
+-- an accepted list, then another
 pub mod JoinLaws
+-- what is written is read back
 pub mod EncodeLaws
+-- the same as a planner needs it
 pub mod EncodedLaws
+-- when a field is settled
 pub mod WaitsLaws
+-- how a list is walked
 pub mod HeadLaws
+-- numbers and places stay in range
 pub mod RangeLaws

@@ -1,5 +1,5 @@
--- The tags of a list, their bodies' lengths and what a body says: document 01, "Lists and fills". A tag is added here and nowhere
--- else. Assumes nothing.
+-- The tags of a list, their bodies' lengths and what a body says: document 01, "Lists and fills". How a cycle is written is in `Encode`;
+-- the code has the same tables in `fields.rt`, `checks.rt` and `runs.rt`. Assumes nothing.
 use Prim.Native.Nat.{ℕ, _+_, _*_}
 use mathlib.Core.Bool.{Bool, _&&_, cond}
 use mathlib.Core.List.{List}

@@ -1,6 +1,12 @@
 -- A run to the panel, and the laws about it.
+
+-- from a word to three bytes
 pub mod Panel
+-- what a run answers and leaves
 pub mod Calls
+-- of what a run shows
 pub mod PanelLaws
+-- what is accepted; the ways out of the call
 pub mod CallLaws
+-- a run of j + k clocks is a run of j and then one of k
 pub mod InTwo
