@@ -11,28 +11,41 @@ pub fn fitted(words: usize) -> bool
     (512 <= words) & (words <= 262144) & (words % 512 == 0)
 }
 
-// 5 to 7, which a read and a write have in common.
-pub fn placed(rows: usize, row: u32, column: u32, strobes: u32, later: u32) -> u32
-    ensures { λ r. ⌜ r ≡ placed rows row column strobes later ⌝ }
+// 5 to 7, of a word read.
+pub fn placed(rows: usize, row: u32, column: u32, strobes: u32) -> u32
+    ensures { λ r. ⌜ r ≡ placed rows row column strobes 0 ⌝ }
 {
     let n = refuse(
         (1 <= strobes) & (strobes <= 3),
         numbers::STROBES_OTHER,
-        later,
+        numbers::DONE,
     );
     let n = refuse(column <= 511, numbers::COLUMN_OVER, n);
     refuse((row as usize) < rows, numbers::ROW_NOT_FITTED, n)
 }
 
+// A write, of which every fill is made: each test leaves by its own number, so that one that is not refused works out none.
 pub fn write_refusal(rows: usize, row: u16, column: u16, masking: u8, mask: u16, strobes: u8) -> u32
     ensures { λ r. ⌜ r ≡ writeRefusal rows row column masking mask strobes ⌝ }
 {
-    let n = refuse(
-        (masking == 0) & (mask == 0) | (masking == 1),
-        numbers::MASKING_OTHER,
-        numbers::DONE,
-    );
-    placed(rows, row as u32, column as u32, strobes as u32, n)
+    if rows <= row as usize {
+        return numbers::ROW_NOT_FITTED;
+    }
+    if 511 < column {
+        return numbers::COLUMN_OVER;
+    }
+    let strobed = (1 <= strobes) & (strobes <= 3);
+    if !strobed {
+        return numbers::STROBES_OTHER;
+    }
+    if masking == 1 {
+        return numbers::DONE;
+    }
+    if (masking == 0) & (mask == 0) {
+        numbers::DONE
+    } else {
+        numbers::MASKING_OTHER
+    }
 }
 
 pub fn load_refusal(strobes: u8) -> u32

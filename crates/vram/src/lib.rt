@@ -119,7 +119,7 @@ impl Vram {
 pub fn read(memory: &[u16], row: u32, column: u32, strobes: u32) -> Word
     ensures { λ r. ⌜ r ≡ wordReadCall (now (memory .entry)) row column strobes ⌝ }
 {
-    let n = placed(memory.len() / 512, row, column, strobes, numbers::DONE);
+    let n = placed(memory.len() / 512, row, column, strobes);
     let n = refuse(fitted(memory.len()), numbers::MEMORY_LENGTH, n);
     if n != numbers::DONE {
         return Word { number: n, word: 0 };
