@@ -1,10 +1,10 @@
 -- The state's rule, part by part, and what keeps it. Assumes nothing.
 use mathlib.Core.Path.{_≡_, refl}
 use mathlib.Core.Bool.{Bool, true, false, _&&_, cond, and-eq-true-iff}
-use Prim.Native.Nat.{ℕ, _≤_}
+use Prim.Native.Nat.{ℕ, zero, suc, _+_, _≤_, _<_}
 use native.Mathlib.Omega.{arith}
 use lib.Dec.{eqb, leb}
-use borrow.Author.Tests.{leb-true, le-leb}
+use borrow.Author.Tests.{leb-true, le-leb, ne-eqb}
 use Rattle.palette.specs.declared.Palette.{Palette}
 use Rattle.palette.specs.Table.{Colour, colour, six}
 use Rattle.palette.specs.State.{fresh, ruled, byPhase, withRegister, moved}
@@ -82,3 +82,13 @@ module _ (p : Palette) (r : Ruled p) where
           (record { red = h; green = r .green; blue = r .blue })
           (record { red = r .red; green = h; blue = r .blue })
           (record { red = r .red; green = r .green; blue = h })
+
+-- ---- the phase moves on by one, and from blue to 0
+
+pub phase-next : (n : ℕ) → n < 2 → byPhase {A = ℕ} n 1 2 0 ≡ n + 1
+phase-next zero h = refl
+phase-next (suc zero) h = refl
+phase-next (suc (suc n)) h = absurd (omega arith)
+
+pub phase-last : (n : ℕ) → 2 ≤ n → byPhase {A = ℕ} n 1 2 0 ≡ 0
+phase-last n h = rw (ne-eqb n 0 (λ e. omega arith), ne-eqb n 1 (λ e. omega arith))

@@ -100,10 +100,9 @@ impl Palette {
         ensures { λ r. ⌜ r ≡ moved self ⌝ }
     {
         let phase = self.phase;
-        match phase {
-            0 => self.with_phase(1),
-            1 => self.with_phase(2),
-            _ => self.with_phase(0),
+        if phase < 2 {
+            return self.with_phase(phase + 1);
         }
+        self.with_phase(0)
     }
 }

@@ -1,18 +1,18 @@
 // From a word to the three bytes that show it.
 ghost use mathlib.Core.Path.{_≡_};
-ghost use Prim.Native.Nat.{_+_, _*_, _≤_};
+ghost use Prim.Native.Nat.{_+_, _*_, _≤_, _<_};
 ghost use lib.Bits.{bitAnd};
 ghost use lib.ListN.{length};
 ghost use Rattle.palette.specs.Table.{store};
 ghost use Rattle.panel.specs.Panel.{pixel, part, panelOf, colourOf, bytesOf};
 ghost use Rattle.numbers.specs.Buffer.{over};
 
-// A word's pixel: its high byte, or its low byte where the high byte is 0.
-fn pixel(word: u16) -> u8
-    ensures { λ r. ⌜ r ≡ pixel word ⌝ }
+// A word's pixel: its high byte, or its low byte where the high byte is 0. It keeps the word's width, so that no byte is cut off twice.
+fn pixel(word: u16) -> u16
+    ensures { λ r. ⌜ (r ≡ pixel word) × (r < 256) ⌝ }
 {
-    let high = (word / 256) as u8;
-    if high == 0 { (word % 256) as u8 } else { high }
+    let high = word / 256;
+    if high == 0 { word } else { high }
 }
 
 // What the panel takes for a six-bit part.
@@ -27,7 +27,8 @@ fn place(word: u16, mask: u8) -> usize
     ensures { λ r. ⌜ (r ≡ 3 * bitAnd (pixel word) mask) × (r ≤ 765) ⌝ }
 {
     let byte = pixel(word);
-    3 * ((byte & mask) as usize)
+    let wide = mask as u16;
+    3 * ((byte & wide) as usize)
 }
 
 // The i-th three bytes of the buffer take the colour that a word shows.

@@ -11,13 +11,15 @@ pixel-requires : tie.Need-pixel-requires
 pixel-requires c κs = search needs
 
 returns : tie.Need-returns
-returns c = (ap (λ (x : ℕ). 3 * bitAnd x (c .before .args .mask)) (c .pixel .ensures), omega (arith, and-le-l (c .pixel .result) (c .before .args .mask), c .pixel .ok))
+returns c =
+    let m = c .before .args .mask in
+    (ap (λ (x : ℕ). 3 * bitAnd x m) (c .pixel .ensures .0), omega (arith, and-le-l (c .pixel .result) m, c .pixel .ensures .1))
 
 cast-result : tie.Need-cast-result
-cast-result c = omega (arith, and-le-l (c .pixel .result) (c .before .args .mask), c .pixel .ok)
+cast-result c = omega (arith, and-le-l (c .pixel .result) (c .before .args .mask), c .pixel .ensures .1)
 
 mul-result : tie.Need-mul-result
-mul-result c = omega (arith, and-le-l (c .pixel .result) (c .before .args .mask), c .pixel .ok)
+mul-result c = omega (arith, and-le-l (c .pixel .result) (c .before .args .mask), c .pixel .ensures .1)
 
 pub place-spec : {M : Type 1} → statement M
 place-spec = tie.close (tie.spec pixel-requires cast-result mul-result returns)
