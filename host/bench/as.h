@@ -1,6 +1,6 @@
 /* The public header with the calls that are measured under another name: compiled with AS=plain_o2 a file that says linkshoar_list_run
- * defines, or calls, plain_o2_list_run. So the header itself declares what the archive is compared with, and whoever calls, the test program
- * too, is written once. Without AS the names are the archive's. */
+ * defines, or calls, plain_o2_list_run. So the header itself declares what the archive is compared with, and whoever calls, the test
+ * program too, is written once. Without AS the names are the archive's. */
 #ifndef AS_H
 #define AS_H
 
@@ -19,8 +19,8 @@
 #include "linkshoar.h"
 
 /* FAULT plants one error in plain.c and in tuned.c, which the test program must find: 1 a block write keeps the low column bits, 2 a plain
- * write is accepted with a mask, 3 a waiting tap is not used up, 4 the pixel mask is ignored, 5 the palette's phase is kept across an address
- * write, 6 a read of blue leaves the phase at blue, 7 a fill goes by blocks where words are no more cycles. */
+ * write is accepted with a mask, 3 a waiting tap is not used up, 4 the pixel mask is ignored, 5 the palette's phase is kept across an
+ * address write, 6 a read of blue leaves the phase at blue, 7 a fill goes by blocks where words are no more cycles. */
 #ifndef FAULT
 #define FAULT 0
 #endif

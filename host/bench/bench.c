@@ -75,7 +75,7 @@ static double least(const work *w)
 
 static void measure(void)
 {
-    printf("%-34s %9s %9s %9s %9s %9s   by plain  by tuned\n", "nanoseconds", "archive", "plain -O2", "plain -O3", "tuned -O2", "tuned -O3");
+    printf("%-34s   archive plain -O2 plain -O3 tuned -O2 tuned -O3   by plain  by tuned\n", "nanoseconds");
     for (int w = 0; w < WORKS; w++) {
         double ns[WHICH];
         printf("%-34s", works[0][w].name);

@@ -1,8 +1,9 @@
-# Prints, as a Markdown table, the x86-64 instructions executed for each unit of work, the caller's included, and how many times plain C's and
-# tuned C's the archive's are. A work is run so often and twice as often, and the difference counts, so that what comes before and after
-# cancels. The counter is a plugin of the user-mode emulator, which gives the same on every machine, or on x86-64 the processor's own, or
-# valgrind. Where there is none this says so and ends well.
-#   count.sh program folder        EMULATOR and HOSTCC: the emulator that takes plugins, the compiler for the machine that it runs on
+# Prints, as a Markdown table, the x86-64 instructions executed for each unit of work, the caller's included, and how many times plain C's
+# and tuned C's (the better of -O2 and -O3) the archive's are. A work is run so often and twice as often, and the difference counts, so that
+# what comes before and after cancels. The counter is a plugin of the user-mode emulator, which gives the same on every machine, or on x86-64
+# the processor's own, or valgrind. Where there is none this says so and ends well.
+#   count.sh program folder        CC: the compiler of program; EMULATOR: the emulator that takes plugins; HOSTCC: the compiler for the
+#                                  machine that the emulator runs on
 program=$1
 folder=$2
 here=$(dirname "$0")
@@ -13,7 +14,8 @@ by_plugin() {
 }
 
 by_processor() {
-    perf stat -x, -e instructions:u -o "$folder/executed" "$program" "$@" && sed -n 's/^\([0-9][0-9]*\),.*instructions.*/\1/p' "$folder/executed"
+    perf stat -x, -e instructions:u -o "$folder/executed" "$program" "$@" &&
+        sed -n 's/^\([0-9][0-9]*\),.*instructions.*/\1/p' "$folder/executed"
 }
 
 by_valgrind() {
@@ -56,7 +58,16 @@ while IFS='	' read -r name times units; do
         for (i = 2; i <= 6; i++) { split($i, n, " "); each[i] = n[1] / n[2] }
         plain = each[3] < each[4] ? each[3] : each[4]
         tuned = each[5] < each[6] ? each[5] : each[6]
-        printf "| %s | %.2f | %.2f | %.2f | %.2f | %.2f | %.2f | %.2f |\n", $1, each[2], each[3], each[4], each[5], each[6], each[2] / plain, each[2] / tuned
+        printf "| %s |", $1
+        for (i = 2; i <= 6; i++) printf " %.2f |", each[i]
+        printf " %.2f | %.2f |\n", each[2] / plain, each[2] / tuned
     }'
     work=$((work + 1))
 done < "$folder/works"
+case $counter in
+by_plugin) by="a plugin of the emulator" ;;
+by_processor) by="the processor" ;;
+by_valgrind) by="valgrind" ;;
+esac
+echo
+echo "Counted by $by; C compiled by gcc $($CC -dumpfullversion)."

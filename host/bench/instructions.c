@@ -1,6 +1,6 @@
-/* A plugin of the user-mode emulator that counts the instructions executed and writes their number to a file. It is for the machine that the
- * emulator runs on. What it needs of the emulator's plugin header stands here, since the header comes with no package; a newer emulator asks
- * for a newer number of the interface, PLUGIN, and these few calls are the same in all.
+/* A plugin of the user-mode emulator that counts the instructions executed and writes their number to a file. It is compiled for the
+ * machine that the emulator runs on. What it needs of the emulator's plugin header stands here, since the emulator's package does not have
+ * it; a newer emulator asks for a newer number of the interface, PLUGIN, and has these few calls too.
  *   qemu-x86_64 -plugin instructions.so,out=FILE program */
 #include <stdbool.h>
 #include <stddef.h>
@@ -17,8 +17,8 @@ struct qemu_plugin_tb;
 enum qemu_plugin_cb_flags { QEMU_PLUGIN_CB_NO_REGS };
 
 void qemu_plugin_register_vcpu_tb_trans_cb(qemu_plugin_id_t id, void (*cb)(qemu_plugin_id_t id, struct qemu_plugin_tb *tb));
-void qemu_plugin_register_vcpu_tb_exec_cb(struct qemu_plugin_tb *tb, void (*cb)(unsigned int vcpu, void *data), enum qemu_plugin_cb_flags flags,
-                                          void *data);
+void qemu_plugin_register_vcpu_tb_exec_cb(struct qemu_plugin_tb *tb, void (*cb)(unsigned int vcpu, void *data),
+                                          enum qemu_plugin_cb_flags flags, void *data);
 void qemu_plugin_register_atexit_cb(qemu_plugin_id_t id, void (*cb)(qemu_plugin_id_t id, void *data), void *data);
 size_t qemu_plugin_tb_n_insns(const struct qemu_plugin_tb *tb);
 

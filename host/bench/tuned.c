@@ -5,6 +5,10 @@
 
 #include <string.h>
 
+/* What is read and answered as whole numbers is laid out so. */
+_Static_assert(sizeof(linkshoar_vram) == 10 && sizeof(linkshoar_clocked) == 16, "structs");
+_Static_assert(sizeof(linkshoar_palette) == 6 && sizeof(linkshoar_accessed) == 12, "structs");
+
 /* ---- whole loads and stores: a list's bytes as one number, the first byte highest */
 
 static unsigned two(const uint8_t *at)
@@ -40,7 +44,7 @@ static int vram_bad(linkshoar_vram s)
 {
     uint64_t first;
     memcpy(&first, &s, 8);
-    if (first & 0xFE00FEFE00000000) /* persistent, loaded or waiting over 1 */
+    if (first & 0xFE00FEFE00000000) /* waiting, loaded or persistent over 1 */
         return 1;
     return s.waiting ? !s.loaded || (s.tap ^ s.pointer) < 128 : s.tap != 0;
 }
@@ -89,27 +93,29 @@ static inline uint32_t judge(const uint8_t *f, uint32_t rows, int *loaded, size_
     }
 }
 
-/* What refuses a list, and where. While LONGEST bytes are left no field is cut short; the last few are judged in a copy with zeros behind. */
+/* What refuses a list, and where. Before late LONGEST bytes are left and no field is cut short; the rest is judged in a copy with zeros
+ * behind it. */
 static uint32_t check(const uint8_t *list, size_t length, uint32_t rows, int loaded, uint64_t *place)
 {
-    size_t at = 0, bytes;
-    for (; length - at >= LONGEST; at += bytes) {
-        uint32_t number = judge(list + at, rows, &loaded, &bytes);
+    const uint8_t *f = list, *end = list + length, *late = length < LONGEST ? list : end - LONGEST + 1;
+    size_t bytes;
+    for (; f < late; f += bytes) {
+        uint32_t number = judge(f, rows, &loaded, &bytes);
         if (number) {
-            *place = at;
+            *place = (uint64_t)(f - list);
             return number;
         }
     }
     uint8_t rest[2 * LONGEST] = {0};
-    size_t left = length - at;
+    size_t left = (size_t)(end - f);
     if (left)
-        memcpy(rest, list + at, left);
+        memcpy(rest, f, left);
     for (size_t k = 0; k < left; k += bytes) {
         uint32_t number = judge(rest + k, rows, &loaded, &bytes);
         if (number != 4 && bytes > left - k)
             number = 4;
         if (number) {
-            *place = at + k;
+            *place = (uint64_t)(f - list) + k;
             return number;
         }
     }
@@ -123,12 +129,14 @@ static uint16_t merge(unsigned old, unsigned new, unsigned allow)
     return (uint16_t)(old ^ ((old ^ new) & allow));
 }
 
+static const uint64_t EACH = 0x0001000100010001; /* times a word: the word four times */
+
 /* A block's four words: each column's four bits of the column mask, one to a quad, become that word's quads. */
-static void write_block(uint16_t *block, uint64_t colour, uint64_t columns, uint64_t allow)
+static void write_block(uint16_t *block, uint64_t colours, uint64_t columns, uint64_t allow)
 {
     uint64_t quads = (columns | columns << 15 | columns << 30 | columns << 45) & 0x1111111111111111, old;
     memcpy(&old, block, 8);
-    old ^= (old ^ colour * 0x0001000100010001) & allow * 0x0001000100010001 & quads * 15;
+    old ^= (old ^ colours) & allow * EACH & quads * 15;
     memcpy(block, &old, 8);
 }
 
@@ -147,6 +155,7 @@ linkshoar_ran linkshoar_list_run(linkshoar_vram state, uint16_t *memory, size_t 
     if (r.number)
         return r;
     linkshoar_vram s = state;
+    uint64_t colours = s.colour * EACH; /* follows the colour register */
     for (const uint8_t *f = list, *end = list + length; f != end;) {
         if (f[0] <= 2) {
             uint64_t b = eight(f + 5);
@@ -157,12 +166,12 @@ linkshoar_ran linkshoar_list_run(linkshoar_vram state, uint16_t *memory, size_t 
             if (f[0] == 1)
                 row[column] = merge(row[column], value, allow);
             else
-                write_block(row + (column & (FAULT == 1 ? ~0u : ~3u)), s.colour, value, allow);
+                write_block(row + (column & (FAULT == 1 ? ~0u : ~3u)), colours, value, allow);
             f += 13;
         } else if (f[0] <= 4) {
             unsigned value = two(f + 3), allow = covered[f[5]];
             if (f[0] == 3)
-                s.colour = merge(s.colour, value, allow);
+                s.colour = merge(s.colour, value, allow), colours = s.colour * EACH;
             else
                 s.mask = merge(s.mask, value, allow), s.persistent = 1;
             f += 6;
@@ -220,13 +229,13 @@ linkshoar_filled linkshoar_fill(uint32_t rows, uint32_t first_row, uint32_t end_
     uint64_t tail = 1u << 24 | (uint32_t)mask << 8 | 3; /* masking, mask, strobes: the end of the last eight bytes */
     uint64_t row = (uint64_t)HEADER(by_words ? 1 : 2, 10) << 40 | (uint64_t)first_row << 24, past = row + ((uint64_t)height << 24);
     if (by_words) {
-        uint64_t end = (uint64_t)end_column << 8 | colour >> 8, value = tail | (uint64_t)colour << 32;
+        uint64_t end = end_column << 8 | colour >> 8, value = tail | (uint64_t)colour << 32;
         for (; row != past; row += 1u << 24)
-            for (uint64_t column = (uint64_t)first_column << 8 | colour >> 8; column != end; column += 1u << 8)
+            for (uint64_t column = first_column << 8 | colour >> 8; column != end; column += 1u << 8)
                 list = put(list, row | column, value);
     } else {
         uint32_t left = 0x1111u * (15u << first_column % 4 & 15), right = 0x1111u * (15u >> (3 - (end_column - 1) % 4));
-        uint64_t whole = tail | (uint64_t)0xFFFF << 32, end = (uint64_t)last << 8 | 0xFF;
+        uint64_t whole = tail | (uint64_t)0xFFFF << 32, end = last << 8 | 0xFF;
         const uint8_t load[6] = {3, 0, 3, (uint8_t)(colour >> 8), (uint8_t)colour, 3};
         memcpy(list, load, 6);
         list += 6;
@@ -236,8 +245,8 @@ linkshoar_filled linkshoar_fill(uint32_t rows, uint32_t first_row, uint32_t end_
             list = put(list, row | first << 8 | left >> 8, tail | (uint64_t)left << 32);
             if (first == last)
                 continue;
-            for (uint64_t column = (uint64_t)(first + 4) << 8 | 0xFF; column != end; column += 4u << 8)
-                list = put(list, row | column, whole);
+            for (uint64_t block = row | (first + 4) << 8 | 0xFF; block != (row | end); block += 4u << 8)
+                list = put(list, block, whole);
             list = put(list, row | last << 8 | right >> 8, tail | (uint64_t)right << 32);
         }
     }
@@ -263,9 +272,16 @@ static void show(uint8_t *out, const uint16_t *word, uint32_t n, unsigned mask, 
     uint16_t entry[128];
     for (uint32_t i = 0; i < n; i++)
         entry[i] = (uint16_t)((word[i] >> 8 ? word[i] >> 8 : word[i]) & (FAULT == 4 ? 255 : mask));
-    for (uint32_t i = 0; i + 1 < n; i++)
-        memcpy(out + 3 * i, shades + 3 * entry[i], 4);
-    memcpy(out + 3 * (n - 1), shades + 3 * entry[n - 1], 3);
+    uint32_t i = 0;
+    for (; i + 4 < n; i += 4, out += 12) {
+        memcpy(out, shades + 3 * entry[i], 4);
+        memcpy(out + 3, shades + 3 * entry[i + 1], 4);
+        memcpy(out + 6, shades + 3 * entry[i + 2], 4);
+        memcpy(out + 9, shades + 3 * entry[i + 3], 4);
+    }
+    for (; i + 1 < n; i++, out += 3)
+        memcpy(out, shades + 3 * entry[i], 4);
+    memcpy(out, shades + 3 * entry[i], 3);
 }
 
 linkshoar_shown linkshoar_panel_run(linkshoar_vram state, const uint16_t *serial, size_t serial_words, linkshoar_palette palette,
@@ -305,8 +321,8 @@ linkshoar_shown linkshoar_panel_run(linkshoar_vram state, const uint16_t *serial
     return r;
 }
 
-/* The registers from the lowest byte up: colour, mask (two each), persistent, loaded, pointer, waiting; then the tap, a spare byte, the word
- * answered (two) and the number. */
+/* The registers from the lowest byte up: colour, mask (two each), persistent, loaded, pointer, waiting; then the tap, a spare byte, the
+ * word answered (two) and the number. */
 static linkshoar_clocked clock_answer(uint64_t registers, uint64_t tap, uint64_t word, uint64_t number)
 {
     const uint64_t parts[2] = {registers, tap | word << 16 | number << 32};
@@ -331,9 +347,9 @@ linkshoar_clocked linkshoar_serial_clock(linkshoar_vram state, const uint16_t *s
     return clock_answer((registers & ~((uint64_t)255 << 48)) | (uint64_t)(uint8_t)(pointer + 1) << 48, state.tap, serial[pointer], 0);
 }
 
-/* ---- palette accesses: the registers as one number, from the lowest byte up address, phase, red, green, blue, mask, and the byte answered */
+/* ---- palette accesses: the registers as one number, from the lowest byte up address, phase, red, green, blue, mask, the byte answered */
 
-static uint64_t registers(linkshoar_palette state)
+static uint64_t palette_registers(linkshoar_palette state)
 {
     uint64_t p = 0;
     memcpy(&p, &state, sizeof state);
@@ -356,7 +372,7 @@ static int palette_bad(uint64_t p)
 
 linkshoar_accessed linkshoar_palette_write(linkshoar_palette state, uint8_t *table, size_t table_bytes, uint32_t select, uint8_t value)
 {
-    uint64_t p = registers(state);
+    uint64_t p = palette_registers(state);
     if (palette_bad(p))
         return accessed(p, 1);
     if (table_bytes != 768)
@@ -386,7 +402,7 @@ linkshoar_accessed linkshoar_palette_write(linkshoar_palette state, uint8_t *tab
 
 linkshoar_accessed linkshoar_palette_read(linkshoar_palette state, uint32_t select)
 {
-    uint64_t p = registers(state);
+    uint64_t p = palette_registers(state);
     if (palette_bad(p))
         return accessed(p, 1);
     switch (select) {
