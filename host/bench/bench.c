@@ -17,7 +17,8 @@ static const work *const works[WHICH] = {linkshoar_works, plain_o2_works, plain_
 
 uint16_t memory[WORDS], serial[256];
 uint8_t masked_blocks[13 * FIELDS], plain_blocks[13 * FIELDS], masked_words[13 * FIELDS], plain_words[13 * FIELDS], colours[6 * FIELDS];
-uint8_t screen[LINKSHOAR_LIST_BYTES], plan[LINKSHOAR_LIST_BYTES], table[768], out[1536];
+uint8_t screen[LINKSHOAR_LIST_BYTES], plan[LINKSHOAR_LIST_BYTES], table[768];
+_Alignas(64) uint8_t out[1536]; /* the C library clears by the place */
 volatile uint32_t sink;
 
 /* ---- what is worked on */

@@ -18,7 +18,8 @@ extern const work linkshoar_works[WORKS];
 extern uint16_t memory[WORDS], serial[256];
 extern uint8_t masked_blocks[13 * FIELDS], plain_blocks[13 * FIELDS], masked_words[13 * FIELDS], plain_words[13 * FIELDS];
 extern uint8_t colours[6 * FIELDS];
-extern uint8_t screen[LINKSHOAR_LIST_BYTES], plan[LINKSHOAR_LIST_BYTES], table[768], out[1536];
+extern uint8_t screen[LINKSHOAR_LIST_BYTES], plan[LINKSHOAR_LIST_BYTES], table[768];
+extern _Alignas(64) uint8_t out[1536];
 extern volatile uint32_t sink;
 
 #endif
