@@ -1,18 +1,55 @@
-/* Speed side by side in one run: the archive against plain C with -O2 and -O3. Each figure is the least of several rounds, in nanoseconds
- * for the unit named; the ratio is the archive's by the faster of the two, below 1 where the archive is faster. */
-#include "plain.h"
+/* The archive side by side with plain C and with tuned C, each with -O2 and with -O3.
+ *   bench                        nanoseconds for each unit of work, each the least of several rounds
+ *   bench works                  the names of the works, how often each is to be run when instructions are counted, and the units of a run
+ *   bench which work times       runs a work so often and does nothing else: what is counted */
+#include "works.h"
 
 #include <stdio.h>
 #include <stdlib.h>
 #include <string.h>
 #include <time.h>
 
-enum { WORDS = 262144, ROUNDS = 9 };
+enum { ROUNDS = 9, WHICH = 5 };
 
-static uint16_t memory[WORDS], serial[256];
-static uint8_t list[LINKSHOAR_LIST_BYTES], blocks[13 * 4096], words[13 * 4096], table[768], out[1536];
-static uint32_t list_bytes;
-static volatile uint32_t sink;
+extern const work plain_o2_works[WORKS], plain_o3_works[WORKS], tuned_o2_works[WORKS], tuned_o3_works[WORKS];
+
+static const work *const works[WHICH] = {linkshoar_works, plain_o2_works, plain_o3_works, tuned_o2_works, tuned_o3_works};
+
+uint16_t memory[WORDS], serial[256];
+uint8_t masked_blocks[13 * FIELDS], plain_blocks[13 * FIELDS], masked_words[13 * FIELDS], plain_words[13 * FIELDS], colours[6 * FIELDS];
+uint8_t screen[LINKSHOAR_LIST_BYTES], plan[LINKSHOAR_LIST_BYTES], table[768];
+_Alignas(64) uint8_t out[1536]; /* the C library clears by the place */
+volatile uint32_t sink;
+
+/* ---- what is worked on */
+
+static void make_writes(uint8_t *at, uint8_t tag, uint8_t masking)
+{
+    for (unsigned i = 0; i < FIELDS; i++, at += 13) {
+        const uint8_t mask = masking ? 0xFF : 0;
+        const uint8_t field[13] = {tag, 0, 10, (uint8_t)(i % 2), (uint8_t)(i * 7), 0, (uint8_t)(i * 4), 0xA5, 0x3C, masking, 0, mask, 3};
+        memcpy(at, field, 13);
+    }
+}
+
+static void make_all(void)
+{
+    make_writes(masked_blocks, 2, 1);
+    make_writes(plain_blocks, 2, 0);
+    make_writes(masked_words, 1, 1);
+    make_writes(plain_words, 1, 0);
+    for (unsigned i = 0; i < FIELDS; i++) {
+        const uint8_t field[6] = {3, 0, 3, (uint8_t)i, (uint8_t)(i * 3), 3};
+        memcpy(colours + 6 * i, field, 6);
+    }
+    linkshoar_fill(512, 0, 512, 0, 512, 0xFFFF, 0x1234, 0, screen, sizeof screen);
+    for (unsigned i = 0; i < 256; i++)
+        serial[i] = (uint16_t)(i % 3 ? 256 * i + 1 : i);
+    for (unsigned i = 0; i < 768; i++)
+        table[i] = (uint8_t)(i * 5);
+}
+
+/* ---- times */
 
 static double now(void)
 {
@@ -21,163 +58,56 @@ static double now(void)
     return 1e9 * (double)t.tv_sec + (double)t.tv_nsec;
 }
 
-/* ---- what is measured: one unit of work for each of the three */
-
-static linkshoar_vram ready(void)
-{
-    linkshoar_vram s = linkshoar_vram_fresh();
-    s.loaded = 1;
-    return s;
-}
-
-static void run_list(int which, const uint8_t *bytes, size_t n)
-{
-    linkshoar_vram s = ready();
-    linkshoar_ran r = which == 0   ? linkshoar_list_run(s, memory, WORDS, serial, 256, bytes, n)
-                      : which == 1 ? plain_list_run_o2(s, memory, WORDS, serial, 256, bytes, n)
-                                   : plain_list_run_o3(s, memory, WORDS, serial, 256, bytes, n);
-    sink += r.number + r.state.colour;
-}
-
-static void list_blocks(int which)
-{
-    run_list(which, blocks, sizeof blocks);
-}
-
-static void list_words(int which)
-{
-    run_list(which, words, sizeof words);
-}
-
-static void list_screen(int which)
-{
-    run_list(which, list, list_bytes);
-}
-
-static void plan(int which, uint32_t end_column)
-{
-    linkshoar_filled r = which == 0   ? linkshoar_fill(512, 0, 512, 3, end_column, 0x00FF, 0x1234, 0, list, sizeof list)
-                         : which == 1 ? plain_fill_o2(512, 0, 512, 3, end_column, 0x00FF, 0x1234, 0, list, sizeof list)
-                                      : plain_fill_o3(512, 0, 512, 3, end_column, 0x00FF, 0x1234, 0, list, sizeof list);
-    sink += r.bytes;
-}
-
-static void plan_blocks(int which)
-{
-    plan(which, 509);
-}
-
-static void plan_words(int which)
-{
-    plan(which, 5);
-}
-
-static void panel(int which, uint32_t blank)
-{
-    linkshoar_vram s = ready();
-    linkshoar_palette p = linkshoar_palette_fresh();
-    linkshoar_shown r = which == 0   ? linkshoar_panel_run(s, serial, 256, p, table, 768, 512, blank, out, sizeof out)
-                        : which == 1 ? plain_panel_run_o2(s, serial, 256, p, table, 768, 512, blank, out, sizeof out)
-                                     : plain_panel_run_o3(s, serial, 256, p, table, 768, 512, blank, out, sizeof out);
-    sink += r.number + out[5];
-}
-
-static void panel_shown(int which)
-{
-    panel(which, 0);
-}
-
-static void panel_blanked(int which)
-{
-    panel(which, 1);
-}
-
-static void clocks(int which)
-{
-    linkshoar_vram s = ready();
-    for (int i = 0; i < 1024; i++) {
-        linkshoar_clocked r = which == 0   ? linkshoar_serial_clock(s, serial, 256)
-                              : which == 1 ? plain_serial_clock_o2(s, serial, 256)
-                                           : plain_serial_clock_o3(s, serial, 256);
-        s = r.state;
-        sink += r.word;
-    }
-}
-
-static void palette_writes(int which)
-{
-    linkshoar_palette p = linkshoar_palette_fresh();
-    for (int i = 0; i < 1024; i++) {
-        linkshoar_accessed r = which == 0   ? linkshoar_palette_write(p, table, 768, 1, (uint8_t)i)
-                               : which == 1 ? plain_palette_write_o2(p, table, 768, 1, (uint8_t)i)
-                                            : plain_palette_write_o3(p, table, 768, 1, (uint8_t)i);
-        p = r.state;
-    }
-    sink += p.address;
-}
-
-static void palette_reads(int which)
-{
-    linkshoar_palette p = linkshoar_palette_fresh();
-    for (int i = 0; i < 1024; i++) {
-        linkshoar_accessed r = which == 0 ? linkshoar_palette_read(p, 1) : which == 1 ? plain_palette_read_o2(p, 1) : plain_palette_read_o3(p, 1);
-        p = r.state;
-        sink += r.byte;
-    }
-}
-
-/* ---- measuring */
-
-static double least(void (*work)(int), int which, double units)
+static double least(const work *w)
 {
     double best = 1e18;
     for (int round = 0; round < ROUNDS; round++) {
         double began = now();
         int times = 0;
         do {
-            work(which);
+            w->run();
             times++;
         } while (now() - began < 2e7);
-        double each = (now() - began) / times / units;
+        double each = (now() - began) / times / w->units;
         best = each < best ? each : best;
     }
     return best;
 }
 
-static void measure(const char *name, void (*work)(int), double units)
+static void measure(void)
 {
-    double ours = least(work, 0, units), o2 = least(work, 1, units), o3 = least(work, 2, units), c = o2 < o3 ? o2 : o3;
-    printf("%-34s %8.2f %8.2f %8.2f   %.2f\n", name, ours, o2, o3, ours / c);
-}
-
-static void make_list(uint8_t *at, uint8_t tag)
-{
-    for (unsigned i = 0; i < 4096; i++, at += 13) {
-        const uint8_t field[13] = {tag, 0, 10, (uint8_t)(i % 2), (uint8_t)(i * 7), 0, (uint8_t)(i * 4), 0xA5, 0x3C, 1, 0, 0xFF, 3};
-        memcpy(at, field, 13);
+    printf("%-34s   archive plain -O2 plain -O3 tuned -O2 tuned -O3   by plain  by tuned\n", "nanoseconds");
+    for (int w = 0; w < WORKS; w++) {
+        double ns[WHICH];
+        printf("%-34s", works[0][w].name);
+        for (int which = 0; which < WHICH; which++)
+            printf(" %9.2f", ns[which] = least(&works[which][w]));
+        printf("   %8.2f  %8.2f\n", ns[0] / (ns[1] < ns[2] ? ns[1] : ns[2]), ns[0] / (ns[3] < ns[4] ? ns[3] : ns[4]));
     }
 }
 
-int main(void)
+/* ---- what is counted */
+
+/* So often that a unit's share of an instruction shows in the second digit after the point. */
+static unsigned times(const work *w)
 {
-    make_list(blocks, 2);
-    make_list(words, 1);
-    for (unsigned i = 0; i < 256; i++)
-        serial[i] = (uint16_t)(i % 3 ? 256 * i + 1 : i);
-    for (unsigned i = 0; i < 768; i++)
-        table[i] = (uint8_t)(i * 5);
-    printf("%-34s %8s %8s %8s   ratio\n", "nanoseconds", "archive", "C -O2", "C -O3");
-    measure("list of block writes, a field", list_blocks, 4096);
-    measure("list of word writes, a field", list_words, 4096);
-    linkshoar_filled full = linkshoar_fill(512, 0, 512, 0, 512, 0xFFFF, 0x1234, 0, list, sizeof list);
-    list_bytes = full.bytes;
-    measure("full-screen fill's list, a field", list_screen, full.cycles);
-    measure("panel run shown, a clock", panel_shown, 512);
-    measure("panel run blanked, a clock", panel_blanked, 512);
-    measure("fill by blocks, a planned cycle", plan_blocks, 1 + 512 * 128);
-    measure("fill by words, a planned cycle", plan_words, 1024);
-    measure("serial clock", clocks, 1024);
-    measure("palette write", palette_writes, 1024);
-    measure("palette read", palette_reads, 1024);
+    return 1 + 16384 / w->units;
+}
+
+int main(int argc, char **argv)
+{
+    make_all();
+    if (argc == 4) {
+        int which = atoi(argv[1]), w = atoi(argv[2]);
+        if (which < 0 || which >= WHICH || w < 0 || w >= WORKS)
+            return 1;
+        for (int n = atoi(argv[3]); n > 0; n--)
+            works[which][w].run();
+    } else if (argc == 2) {
+        for (int w = 0; w < WORKS; w++)
+            printf("%s\t%u\t%u\n", works[0][w].name, times(&works[0][w]), works[0][w].units);
+    } else {
+        measure();
+    }
     return 0;
 }

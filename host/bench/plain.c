@@ -1,8 +1,7 @@
-#include "plain.h"
+/* Document 01 in plain C, as one would write it: what the archive is compared with. It is built twice, with -O2 and with -O3. */
+#include "as.h"
 
 #include <string.h>
-
-#define CALL(name) PLAIN_JOIN(name, NAME)
 
 static int vram_bad(linkshoar_vram s)
 {
@@ -28,7 +27,7 @@ static uint32_t judge(const uint8_t *f, size_t left, unsigned rows, int loaded)
     const uint8_t *b = f + 3;
     switch (f[0]) {
     case 1: case 2:
-        return pair(b) >= rows ? 5 : pair(b + 2) > 511 ? 6 : (unsigned)b[9] - 1 > 2 ? 7 : b[6] > 1 || (!b[6] && pair(b + 7)) ? 8 : 0;
+        return pair(b) >= rows ? 5 : pair(b + 2) > 511 ? 6 : (unsigned)b[9] - 1 > 2 ? 7 : b[6] > 1 || (!b[6] && pair(b + 7) && FAULT != 2) ? 8 : 0;
     case 3: case 4:
         return (unsigned)b[2] - 1 > 2 ? 7 : 0;
     case 6:
@@ -50,8 +49,8 @@ static uint16_t merge(unsigned old, unsigned new, unsigned allow)
     return (uint16_t)((old & ~allow) | (new & allow));
 }
 
-linkshoar_ran CALL(list_run)(linkshoar_vram state, uint16_t *memory, size_t words, uint16_t *serial, size_t serial_words, const uint8_t *list,
-                             size_t length)
+linkshoar_ran linkshoar_list_run(linkshoar_vram state, uint16_t *memory, size_t words, uint16_t *serial, size_t serial_words,
+                                 const uint8_t *list, size_t length)
 {
     linkshoar_ran r = {state, 0, 0};
     if (vram_bad(state))
@@ -82,7 +81,7 @@ linkshoar_ran CALL(list_run)(linkshoar_vram state, uint16_t *memory, size_t word
                 word += pair(b + 2);
                 *word = merge(*word, pair(b + 4), allow);
             } else {
-                word += pair(b + 2) & ~3u;
+                word += pair(b + 2) & (FAULT == 1 ? ~0u : ~3u);
                 for (unsigned j = 0; j < 4; j++) {
                     unsigned quads = pair(b + 4) >> j & 0x1111;
                     word[j] = merge(word[j], s.colour, allow & quads * 15);
@@ -116,8 +115,8 @@ static uint8_t *put(uint8_t *at, unsigned tag, unsigned row, unsigned column, un
     return at + 13;
 }
 
-linkshoar_filled CALL(fill)(uint32_t rows, uint32_t first_row, uint32_t end_row, uint32_t first_column, uint32_t end_column, uint16_t mask,
-                            uint16_t colour, uint32_t persistent, uint8_t *list, size_t length)
+linkshoar_filled linkshoar_fill(uint32_t rows, uint32_t first_row, uint32_t end_row, uint32_t first_column, uint32_t end_column,
+                                uint16_t mask, uint16_t colour, uint32_t persistent, uint8_t *list, size_t length)
 {
     linkshoar_filled r = {0, 0, 0};
     if (rows - 1 > 511)
@@ -130,7 +129,7 @@ linkshoar_filled CALL(fill)(uint32_t rows, uint32_t first_row, uint32_t end_row,
     if (r.number || !mask || !height || !width)
         return r;
     uint32_t words = height * width, blocks = height * (last - first);
-    int by_words = words <= 1 + blocks;
+    int by_words = words <= blocks + (FAULT != 7);
     uint32_t bytes = by_words ? 13 * words : 6 + 13 * blocks;
     if (length < bytes) {
         r.number = 15;
@@ -158,14 +157,15 @@ linkshoar_filled CALL(fill)(uint32_t rows, uint32_t first_row, uint32_t end_row,
 static linkshoar_vram clocked(linkshoar_vram s)
 {
     if (s.waiting && (s.pointer & 127) == 127)
-        s.pointer = s.tap, s.waiting = 0, s.tap = 0;
+        s.pointer = s.tap, s.waiting = FAULT == 3, s.tap = 0;
     else
         s.pointer++;
     return s;
 }
 
-linkshoar_shown CALL(panel_run)(linkshoar_vram state, const uint16_t *serial, size_t serial_words, linkshoar_palette palette,
-                                const uint8_t *table, size_t table_bytes, uint32_t clocks, uint32_t blank, uint8_t *out, size_t out_bytes)
+linkshoar_shown linkshoar_panel_run(linkshoar_vram state, const uint16_t *serial, size_t serial_words, linkshoar_palette palette,
+                                    const uint8_t *table, size_t table_bytes, uint32_t clocks, uint32_t blank, uint8_t *out,
+                                    size_t out_bytes)
 {
     linkshoar_shown r = {state, 0};
     if (vram_bad(state) || palette_bad(palette))
@@ -190,7 +190,7 @@ linkshoar_shown CALL(panel_run)(linkshoar_vram state, const uint16_t *serial, si
         } else {
             for (uint32_t i = 0; i < n; i++, out += 3) {
                 unsigned pixel = word[i] >> 8 ? word[i] >> 8 : word[i] & 255u;
-                const uint8_t *entry = table + 3 * (pixel & palette.mask);
+                const uint8_t *entry = table + 3 * (pixel & (FAULT == 4 ? 255 : palette.mask));
                 out[0] = entry[0] & 63, out[1] = entry[1] & 63, out[2] = entry[2] & 63;
             }
         }
@@ -201,7 +201,7 @@ linkshoar_shown CALL(panel_run)(linkshoar_vram state, const uint16_t *serial, si
     return r;
 }
 
-linkshoar_clocked CALL(serial_clock)(linkshoar_vram state, const uint16_t *serial, size_t serial_words)
+linkshoar_clocked linkshoar_serial_clock(linkshoar_vram state, const uint16_t *serial, size_t serial_words)
 {
     linkshoar_clocked r = {state, 0, 0};
     if (vram_bad(state))
@@ -215,7 +215,7 @@ linkshoar_clocked CALL(serial_clock)(linkshoar_vram state, const uint16_t *seria
     return r;
 }
 
-linkshoar_accessed CALL(palette_write)(linkshoar_palette p, uint8_t *table, size_t table_bytes, uint32_t select, uint8_t value)
+linkshoar_accessed linkshoar_palette_write(linkshoar_palette p, uint8_t *table, size_t table_bytes, uint32_t select, uint8_t value)
 {
     linkshoar_accessed r = {p, 0, 0};
     if (palette_bad(p))
@@ -233,7 +233,7 @@ linkshoar_accessed CALL(palette_write)(linkshoar_palette p, uint8_t *table, size
         p.address = (uint8_t)(value + 1), p.phase = 0;
         break;
     }
-    case 0: p.address = value, p.phase = 0; break;
+    case 0: p.address = value, p.phase = FAULT == 5 ? p.phase : 0; break;
     case 2: p.mask = value; break;
     default:
         value &= 63;
@@ -252,7 +252,7 @@ linkshoar_accessed CALL(palette_write)(linkshoar_palette p, uint8_t *table, size
     return r;
 }
 
-linkshoar_accessed CALL(palette_read)(linkshoar_palette p, uint32_t select)
+linkshoar_accessed linkshoar_palette_read(linkshoar_palette p, uint32_t select)
 {
     linkshoar_accessed r = {p, 0, 0};
     if (palette_bad(p))
@@ -265,7 +265,7 @@ linkshoar_accessed CALL(palette_read)(linkshoar_palette p, uint32_t select)
         r.byte = p.mask;
     else {
         r.byte = p.phase == 0 ? p.red : p.phase == 1 ? p.green : p.blue;
-        r.state.phase = p.phase == 2 ? 0 : (uint8_t)(p.phase + 1);
+        r.state.phase = p.phase == 2 ? 2 * (FAULT == 6) : (uint8_t)(p.phase + 1);
     }
     return r;
 }
