@@ -5,14 +5,25 @@ use mathlib.Core.List.{List}
 use mathlib.Core.Logic.{_≢_}
 use Prim.Native.Nat.{ℕ}
 use lib.Dec.{eqb}
-use Rattle.numbers.specs.Refuse.{leaves}
-use Rattle.numbers.specs.RefuseLaws.{firstOf-later, firstOf-first, refused-is, done-is, leaves-before}
+use Rattle.numbers.specs.Refuse.{firstOf, leaves}
+use Rattle.numbers.specs.RefuseLaws.{firstOf-later, firstOf-first, refused-is, done-is}
 use Rattle.vram.specs.declared.Vram.{Vram}
 use Rattle.vram.specs.declared.Cycle.{Cycle}
 use Rattle.vram.specs.Board.{Board, board, effect}
 use Rattle.vram.specs.Refusal.{refusal}
 use Rattle.vram.specs.Step.{givenOf, rowsOf, number, stepBy}
 use Rattle.vram.specs.Calls.{answered, outcome, cycleCall, Transferred}
+
+-- ---- the number of a kind: n is what the code has for what is given
+
+module _ (n g k : ℕ) (e : n ≡ g) where
+  -- what is given refuses
+  pub given-refuses : n ≢ 0 → n ≡ firstOf g k
+  given-refuses h = e ∙ sym (firstOf-first g k (λ z. h (e ∙ z)))
+
+  -- it does not, and the kind's own numbers decide
+  pub own-decides : {m : ℕ} → n ≡ 0 → m ≡ k → m ≡ firstOf g k
+  own-decides z f = f ∙ sym (firstOf-later g k (sym e ∙ z))
 
 -- ---- a transfer
 
@@ -41,20 +52,19 @@ parts true before made e f g = rw (e, f, g)
 parts false before made e f g = rw (e, f, g)
 
 module _ (c : Cycle) (s : Vram) (m r : List ℕ) where
-  -- 1 to 3
-  pub not-given : (n : ℕ) → n ≡ givenOf (board s m r) → n ≢ 0 → outcome (answered n s) m r ≡ cycleCall c (board s m r)
-  unfolding cycleCall number stepBy
-  not-given n e h =
-      let p : number c (board s m r) ≡ n = firstOf-first (givenOf (board s m r)) _ (λ z. h (e ∙ z)) ∙ sym e in
-      rw (p, leaves-before n (board s m r) (effect c (board s m r)) h)
-
-  -- 5 to 10, or done
-  pub did : (n : ℕ) {s″ : Vram} {m″ r″ : List ℕ} → givenOf (board s m r) ≡ 0 → n ≡ refusal (rowsOf (board s m r)) (s .loaded) c
+  -- what a kind ensures is what the call owes
+  pub did : (n : ℕ) {s″ : Vram} {m″ r″ : List ℕ} → n ≡ firstOf (givenOf (board s m r)) (refusal (rowsOf (board s m r)) (s .loaded) c)
       → s″ ≡ leaves n s (effect c (board s m r) .state)
       → m″ ≡ leaves n m (effect c (board s m r) .memory)
       → r″ ≡ leaves n r (effect c (board s m r) .serial)
       → outcome (answered n s″) m″ r″ ≡ cycleCall c (board s m r)
   unfolding cycleCall number stepBy
-  did n g e f k l =
-      let p : number c (board s m r) ≡ n = firstOf-later (givenOf (board s m r)) _ g ∙ sym e in
+  did n e f k l =
+      let p : number c (board s m r) ≡ n = sym e in
       rw p (ap (λ (b : Board). record { given = n; after = b }) (parts (eqb n 0) (board s m r) (effect c (board s m r)) f k l))
+
+  -- a kind that is lent nothing
+  pub did-alone : (n : ℕ) {s″ : Vram} → n ≡ firstOf (givenOf (board s m r)) (refusal (rowsOf (board s m r)) (s .loaded) c)
+      → s″ ≡ leaves n s (effect c (board s m r) .state) → effect c (board s m r) .memory ≡ m → effect c (board s m r) .serial ≡ r
+      → outcome (answered n s″) m r ≡ cycleCall c (board s m r)
+  did-alone n e f k l = did n e f (kept n m ∙ ap (leaves n m) (sym k)) (kept n r ∙ ap (leaves n r) (sym l))

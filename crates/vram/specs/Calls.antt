@@ -22,6 +22,10 @@ use Rattle.vram.specs.Serial.{through, clock, clocks}
 abbrev pub answered : ℕ → Vram → Answered
 answered n s = record { state = s; number = n }
 
+-- the number, with the state as it was where it refuses, else as the call makes it
+abbrev pub answers : ℕ → Vram → Vram → Answered
+answers n s made = answered n (leaves n s made)
+
 -- ---- a cycle
 
 -- the number given back, and the board afterwards
@@ -37,7 +41,7 @@ cycleCall c b = record { given = number c b; after = step c b }
 
 -- a transfer, of the state and the serial register: each as it was where n refuses, else as the transfer makes it
 pub record Transferred (n : ℕ) (s made : Vram) (r copied : List ℕ) (given : Answered) (left : List ℕ) : Type 0 where
-  pub answer : given ≡ answered n (leaves n s made)
+  pub answer : given ≡ answers n s made
   pub serial : left ≡ leaves n r copied
 
 -- ---- a word read

@@ -1,16 +1,18 @@
-// The seven cycles. `Vram::cycle` refuses or performs; each kind judges its own field, then acts.
+// The seven cycles. `Vram::cycle` tells the kinds apart; each judges what it is given, then its own numbers, then acts. What is given is
+// not judged before the kinds are told apart: so a list's choice by the tag and the choice of the kind become one in the machine's code.
 ghost use mathlib.Core.Path.{_≡_};
 ghost use mathlib.Core.Bool.{true, false, _&&_};
 ghost use Prim.Native.Nat.{_+_, _*_, _/_, _≤_};
 ghost use lib.ListN.{length};
-ghost use Rattle.numbers.specs.Refuse.{leaves};
+ghost use Rattle.numbers.specs.Refuse.{firstOf, leaves};
 ghost use Rattle.words.specs.Bit.{ofBits};
 ghost use Rattle.words.specs.Word.{merged, covers, lets};
 ghost use Rattle.vram.specs.State.{withColour, withMask, withSerial, other};
 ghost use Rattle.vram.specs.Memory.{put, puts, copied};
 ghost use Rattle.vram.specs.Board.{board, inForce, allowed};
+ghost use Rattle.vram.specs.Refusal.{given};
 ghost use Rattle.refusals.specs.Refusal.{writeRefusal, loadRefusal, fullRefusal, splitRefusal};
-ghost use Rattle.vram.specs.Calls.{answered, outcome, cycleCall, Transferred};
+ghost use Rattle.vram.specs.Calls.{answers, outcome, cycleCall, Transferred};
 ghost use Rattle.vram.specs.declared.Waiting.the-variants.{None, Tap};
 use crate::Answered;
 use crate::Cycle;
@@ -53,6 +55,7 @@ impl Vram {
     fn word_write(
         self,
         memory: &mut [u16],
+        serial_words: usize,
         row: u16,
         column: u16,
         word: u16,
@@ -60,9 +63,13 @@ impl Vram {
         mask: u16,
         strobes: u8,
     ) -> u32
-        ensures number { λ r. ⌜ r ≡ writeRefusal (length (now (memory .entry)) / 512) row column masking mask strobes ⌝ }
+        ensures number { λ r. ⌜ r ≡ firstOf (given self (length (now (memory .entry))) «serial_words») (writeRefusal (length (now (memory .entry)) / 512) row column masking mask strobes) ⌝ }
         ensures leaves { λ r. ⌜ now (memory .exit) ≡ leaves r (now (memory .entry)) (put (now (memory .entry)) (512 * row + column) word (allowed self masking mask strobes)) ⌝ }
     {
+        let n = self.given(memory.len(), serial_words);
+        if n != numbers::DONE {
+            return n;
+        }
         let n = write_refusal(memory.len() / 512, row, column, masking, mask, strobes);
         if n != numbers::DONE {
             return n;
@@ -75,6 +82,7 @@ impl Vram {
     fn block_write(
         self,
         memory: &mut [u16],
+        serial_words: usize,
         row: u16,
         column: u16,
         columns: u16,
@@ -82,9 +90,13 @@ impl Vram {
         mask: u16,
         strobes: u8,
     ) -> u32
-        ensures number { λ r. ⌜ r ≡ writeRefusal (length (now (memory .entry)) / 512) row column masking mask strobes ⌝ }
+        ensures number { λ r. ⌜ r ≡ firstOf (given self (length (now (memory .entry))) «serial_words») (writeRefusal (length (now (memory .entry)) / 512) row column masking mask strobes) ⌝ }
         ensures leaves { λ r. ⌜ now (memory .exit) ≡ leaves r (now (memory .entry)) (puts (now (memory .entry)) (512 * row + 4 * (column / 4)) (self .colour) (λ j b. lets columns j b && allowed self masking mask strobes b) 4) ⌝ }
     {
+        let n = self.given(memory.len(), serial_words);
+        if n != numbers::DONE {
+            return n;
+        }
         let n = write_refusal(memory.len() / 512, row, column, masking, mask, strobes);
         if n != numbers::DONE {
             return n;
@@ -100,9 +112,16 @@ impl Vram {
         numbers::DONE
     }
 
-    fn load_colour(self, word: u16, strobes: u8) -> Answered
-        ensures { λ r. ⌜ r ≡ answered (loadRefusal strobes) (leaves (loadRefusal strobes) self (withColour self (merged (self .colour) word (covers strobes)))) ⌝ }
+    fn load_colour(self, words: usize, serial_words: usize, word: u16, strobes: u8) -> Answered
+        ensures { λ r. ⌜ r ≡ answers (firstOf (given self words «serial_words») (loadRefusal strobes)) self (withColour self (merged (self .colour) word (covers strobes))) ⌝ }
     {
+        let n = self.given(words, serial_words);
+        if n != numbers::DONE {
+            return Answered {
+                state: self,
+                number: n,
+            };
+        }
         let n = load_refusal(strobes);
         if n != numbers::DONE {
             return Answered {
@@ -118,9 +137,16 @@ impl Vram {
         }
     }
 
-    fn load_mask(self, word: u16, strobes: u8) -> Answered
-        ensures { λ r. ⌜ r ≡ answered (loadRefusal strobes) (leaves (loadRefusal strobes) self (withMask self (merged (self .mask) word (covers strobes)) true)) ⌝ }
+    fn load_mask(self, words: usize, serial_words: usize, word: u16, strobes: u8) -> Answered
+        ensures { λ r. ⌜ r ≡ answers (firstOf (given self words «serial_words») (loadRefusal strobes)) self (withMask self (merged (self .mask) word (covers strobes)) true) ⌝ }
     {
+        let n = self.given(words, serial_words);
+        if n != numbers::DONE {
+            return Answered {
+                state: self,
+                number: n,
+            };
+        }
         let n = load_refusal(strobes);
         if n != numbers::DONE {
             return Answered {
@@ -136,9 +162,16 @@ impl Vram {
         }
     }
 
-    fn reset_refresh(self) -> Answered
-        ensures { λ r. ⌜ r ≡ answered 0 (withMask self (self .mask) false) ⌝ }
+    fn reset_refresh(self, words: usize, serial_words: usize) -> Answered
+        ensures { λ r. ⌜ r ≡ answers (firstOf (given self words «serial_words») 0) self (withMask self (self .mask) false) ⌝ }
     {
+        let n = self.given(words, serial_words);
+        if n != numbers::DONE {
+            return Answered {
+                state: self,
+                number: n,
+            };
+        }
         let state = self.with_mask(self.mask, false);
         Answered {
             state,
@@ -154,9 +187,15 @@ impl Vram {
         half: u8,
         tap: u8,
     ) -> Answered
-        requires { ⌜ length (now serial) ≡ 256 ⌝ }
-        ensures { λ r. ⌜ Transferred (fullRefusal (length (now (memory .entry)) / 512) row half) self (withSerial self true tap None) (now (serial .entry)) (copied (now (memory .entry)) (512 * row + 256 * half) (now (serial .entry)) 0 256) r (now (serial .exit)) ⌝ }
+        ensures { λ r. ⌜ Transferred (firstOf (given self (length (now (memory .entry))) (length (now (serial .entry)))) (fullRefusal (length (now (memory .entry)) / 512) row half)) self (withSerial self true tap None) (now (serial .entry)) (copied (now (memory .entry)) (512 * row + 256 * half) (now (serial .entry)) 0 256) r (now (serial .exit)) ⌝ }
     {
+        let n = self.given(memory.len(), serial.len());
+        if n != numbers::DONE {
+            return Answered {
+                state: self,
+                number: n,
+            };
+        }
         let n = full_refusal(memory.len() / 512, row, half);
         if n != numbers::DONE {
             return Answered {
@@ -181,9 +220,15 @@ impl Vram {
         half: u8,
         tap: u8,
     ) -> Answered
-        requires { ⌜ length (now serial) ≡ 256 ⌝ }
-        ensures { λ r. ⌜ Transferred (splitRefusal (length (now (memory .entry)) / 512) (self .loaded) row half tap) self (withSerial self (self .loaded) (self .pointer) (Tap (128 * other (self .pointer) + tap))) (now (serial .entry)) (copied (now (memory .entry)) (512 * row + 256 * half + 128 * other (self .pointer)) (now (serial .entry)) (128 * other (self .pointer)) 128) r (now (serial .exit)) ⌝ }
+        ensures { λ r. ⌜ Transferred (firstOf (given self (length (now (memory .entry))) (length (now (serial .entry)))) (splitRefusal (length (now (memory .entry)) / 512) (self .loaded) row half tap)) self (withSerial self (self .loaded) (self .pointer) (Tap (128 * other (self .pointer) + tap))) (now (serial .entry)) (copied (now (memory .entry)) (512 * row + 256 * half + 128 * other (self .pointer)) (now (serial .entry)) (128 * other (self .pointer)) 128) r (now (serial .exit)) ⌝ }
     {
+        let n = self.given(memory.len(), serial.len());
+        if n != numbers::DONE {
+            return Answered {
+                state: self,
+                number: n,
+            };
+        }
         let n = split_refusal(memory.len() / 512, self.loaded, row, half, tap);
         if n != numbers::DONE {
             return Answered {
@@ -206,13 +251,6 @@ impl Vram {
     pub fn cycle(self, memory: &mut [u16], serial: &mut [u16], cycle: Cycle) -> Answered
         ensures { λ r. ⌜ outcome r (now (memory .exit)) (now (serial .exit)) ≡ cycleCall cycle (board self (now (memory .entry)) (now (serial .entry))) ⌝ }
     {
-        let n = self.given(memory.len(), serial.len());
-        if n != numbers::DONE {
-            return Answered {
-                state: self,
-                number: n,
-            };
-        }
         match cycle {
             Cycle::WordWrite {
                 row,
@@ -222,7 +260,16 @@ impl Vram {
                 mask,
                 strobes,
             } => {
-                let n = self.word_write(memory, row, column, word, masking, mask, strobes);
+                let n = self.word_write(
+                    memory,
+                    serial.len(),
+                    row,
+                    column,
+                    word,
+                    masking,
+                    mask,
+                    strobes,
+                );
                 Answered {
                     state: self,
                     number: n,
@@ -236,15 +283,34 @@ impl Vram {
                 mask,
                 strobes,
             } => {
-                let n = self.block_write(memory, row, column, columns, masking, mask, strobes);
+                let n = self.block_write(
+                    memory,
+                    serial.len(),
+                    row,
+                    column,
+                    columns,
+                    masking,
+                    mask,
+                    strobes,
+                );
                 Answered {
                     state: self,
                     number: n,
                 }
             }
-            Cycle::LoadColour { word, strobes } => self.load_colour(word, strobes),
-            Cycle::LoadMask { word, strobes } => self.load_mask(word, strobes),
-            Cycle::ResetRefresh => self.reset_refresh(),
+            Cycle::LoadColour { word, strobes } => self.load_colour(
+                memory.len(),
+                serial.len(),
+                word,
+                strobes,
+            ),
+            Cycle::LoadMask { word, strobes } => self.load_mask(
+                memory.len(),
+                serial.len(),
+                word,
+                strobes,
+            ),
+            Cycle::ResetRefresh => self.reset_refresh(memory.len(), serial.len()),
             Cycle::FullTransfer { row, half, tap } => {
                 self.full_transfer(memory, serial, row, half, tap)
             }

@@ -1,20 +1,13 @@
 -- `vram::Vram::cycle` meets its contract: what each kind ensures is what the whole call owes, by `did`. Assumes nothing.
-use mathlib.Core.Path.{refl, sym, _∙_}
-use lib.ListN.{length}
+use mathlib.Core.Path.{refl}
+use Rattle.numbers.specs.Refuse.{firstOf}
 use Rattle.vram.specs.Board.{effect}
-use Rattle.refusals.specs.Refusal.{loadRefusal, fullRefusal, splitRefusal}
-use Rattle.vram.specs.Refusal.{refusal}
-use Rattle.vram.specs.RefusalLaws.{given-zero}
-use Rattle.vram.proofs.Arms.{not-given, did, kept}
+use Rattle.refusals.specs.Refusal.{fullRefusal, splitRefusal}
+use Rattle.vram.specs.Refusal.{given, refusal}
+use Rattle.vram.proofs.Arms.{kept, did, did-alone}
 use borrow.Author.Needs.{needs}
 use Rattle.vram.proofs.Vram.cycle.Statement.{statement}
 use Rattle.vram.proofs.Vram.cycle.Tie as tie
-
-given-requires : tie.Need-given-requires
-given-requires c κs = search needs
-
-returns : tie.Need-returns
-returns c = not-given _ _ _ _ _ (c .before .given .ensures) (c .if1 .taken)
 
 enum-known-cycle : tie.Need-enum-known-cycle
 enum-known-cycle c = search needs
@@ -50,66 +43,55 @@ enum-known-cycle-5 : tie.Need-enum-known-cycle-5
 enum-known-cycle-5 c = search needs
 
 full-transfer-requires : tie.Need-full-transfer-requires
-full-transfer-requires c κs =
-    let e = c .before .before .before .before .before in
-    let a = e .before .before .before .before .args in
-    given-zero (a .self) (length (a .memory .now)) (length (a .serial .now)) (sym (e .before .given .ensures) ∙ e .if1 .left) .register
+full-transfer-requires c κs = search needs
 
 enum-known-cycle-6 : tie.Need-enum-known-cycle-6
 enum-known-cycle-6 c = search needs
 
 split-transfer-requires : tie.Need-split-transfer-requires
-split-transfer-requires c κs =
-    let e = c .before .before .before .before .before in
-    let a = e .before .before .before .before .args in
-    given-zero (a .self) (length (a .memory .now)) (length (a .serial .now)) (sym (e .before .given .ensures) ∙ e .if1 .left) .register
+split-transfer-requires c κs = search needs
 
 same-length : tie.Need-same-length
 same-length c = search needs
+
+returns : tie.Need-returns
+unfolding effect refusal
+returns c =
+    let w = c .before .before in
+    let k = w .before .before .before in
+    rw (k .cycle .given .1)
+    (did _ _ _ _ _ (w .word-write .ensures .0) (kept (w .word-write .result) _) (w .word-write .ensures .1) (kept (w .word-write .result) _))
+
+same-length-2 : tie.Need-same-length-2
+same-length-2 c = search needs
 
 returns-2 : tie.Need-returns-2
 unfolding effect refusal
 returns-2 c =
     let w = c .before .before in
     let k = w .before .before .before in
-    let e = k .before .before in
-    rw (k .cycle .given .1)
-    (did _ _ _ _ _ (sym (e .before .given .ensures) ∙ e .if1 .left) (w .word-write .ensures .0) (kept (w .word-write .result) _) (w .word-write .ensures .1) (kept (w .word-write .result) _))
-
-same-length-2 : tie.Need-same-length-2
-same-length-2 c = search needs
+    rw (k .cycle2 .given .1)
+    (did _ _ _ _ _ (w .block-write .ensures .0) (kept (w .block-write .result) _) (w .block-write .ensures .1) (kept (w .block-write .result) _))
 
 returns-3 : tie.Need-returns-3
 unfolding effect refusal
 returns-3 c =
-    let w = c .before .before in
-    let k = w .before .before .before in
-    let e = k .before .before in
-    rw (k .cycle2 .given .1)
-    (did _ _ _ _ _ (sym (e .before .given .ensures) ∙ e .if1 .left) (w .block-write .ensures .0) (kept (w .block-write .result) _) (w .block-write .ensures .1) (kept (w .block-write .result) _))
+    let k = c .before .before in
+    rw (k .cycle3 .given .1, c .load-colour .ensures)
+    (did-alone _ _ _ _ _ refl refl refl refl)
 
 returns-4 : tie.Need-returns-4
 unfolding effect refusal
 returns-4 c =
     let k = c .before .before in
-    let e = k .before .before in
-    rw (k .cycle3 .given .1, c .load-colour .ensures)
-    (did _ _ _ _ _ (sym (e .before .given .ensures) ∙ e .if1 .left) refl refl (kept (loadRefusal _) _) (kept (loadRefusal _) _))
+    rw (k .cycle4 .given .1, c .load-mask .ensures)
+    (did-alone _ _ _ _ _ refl refl refl refl)
 
 returns-5 : tie.Need-returns-5
 unfolding effect refusal
 returns-5 c =
-    let k = c .before .before in
-    let e = k .before .before in
-    rw (k .cycle4 .given .1, c .load-mask .ensures)
-    (did _ _ _ _ _ (sym (e .before .given .ensures) ∙ e .if1 .left) refl refl (kept (loadRefusal _) _) (kept (loadRefusal _) _))
-
-returns-6 : tie.Need-returns-6
-unfolding effect refusal
-returns-6 c =
-    let e = c .before .before .before in
     rw (c .before .enum-told .given .1, c .reset-refresh .ensures)
-    (did _ _ _ _ 0 (sym (e .before .given .ensures) ∙ e .if1 .left) refl refl refl refl)
+    (did-alone _ _ _ _ _ refl refl refl refl)
 
 same-length-3 : tie.Need-same-length-3
 same-length-3 c = search needs
@@ -117,14 +99,13 @@ same-length-3 c = search needs
 same-length-4 : tie.Need-same-length-4
 same-length-4 c = search needs
 
-returns-7 : tie.Need-returns-7
+returns-6 : tie.Need-returns-6
 unfolding effect refusal
-returns-7 c =
+returns-6 c =
     let t = c .before .before in
     let k = t .before .before .before .before in
-    let e = k .before .before in
     rw (k .cycle5 .given .1, t .full-transfer .ensures .answer)
-    (did _ _ _ _ _ (sym (e .before .given .ensures) ∙ e .if1 .left) refl refl (kept (fullRefusal _ _ _) _) (t .full-transfer .ensures .serial))
+    (did _ _ _ _ _ refl refl (kept (firstOf (given _ _ _) (fullRefusal _ _ _)) _) (t .full-transfer .ensures .serial))
 
 same-length-5 : tie.Need-same-length-5
 same-length-5 c = search needs
@@ -132,21 +113,18 @@ same-length-5 c = search needs
 same-length-6 : tie.Need-same-length-6
 same-length-6 c = search needs
 
-returns-8 : tie.Need-returns-8
+returns-7 : tie.Need-returns-7
 unfolding effect refusal
-returns-8 c =
+returns-7 c =
     let t = c .before .before in
     let k = t .before .before .before .before in
-    let e = k .before .before in
     rw (k .cycle6 .given .1, t .split-transfer .ensures .answer)
-    (did _ _ _ _ _ (sym (e .before .given .ensures) ∙ e .if1 .left) refl refl (kept (splitRefusal _ _ _ _ _) _) (t .split-transfer .ensures .serial))
+    (did _ _ _ _ _ refl refl (kept (firstOf (given _ _ _) (splitRefusal _ _ _ _ _)) _) (t .split-transfer .ensures .serial))
 
 pub cycle-spec : {M : Type 1} → statement M
 cycle-spec =
     tie.close
     (tie.spec
-    given-requires
-    returns
     enum-known-cycle
     word-write-requires
     enum-known-cycle-2
@@ -162,15 +140,15 @@ cycle-spec =
     enum-known-cycle-6
     split-transfer-requires
     same-length
-    returns-2
+    returns
     same-length-2
+    returns-2
     returns-3
     returns-4
     returns-5
-    returns-6
     same-length-3
     same-length-4
-    returns-7
+    returns-6
     same-length-5
     same-length-6
-    returns-8)
+    returns-7)

@@ -1,15 +1,25 @@
 -- `vram::Vram::reset_refresh` meets its contract. Assumes nothing.
-use mathlib.Core.Path.{ap}
+use mathlib.Core.Path.{refl}
+use Rattle.numbers.specs.RefuseLaws.{refused-is, done-is}
 use Rattle.vram.specs.Calls.{answered}
+use Rattle.vram.proofs.Arms.{given-refuses, own-decides}
 use borrow.Author.Needs.{needs}
 use Rattle.vram.proofs.Vram.reset_refresh.Statement.{statement}
 use Rattle.vram.proofs.Vram.reset_refresh.Tie as tie
 
+given-requires : tie.Need-given-requires
+given-requires c κs = search needs
+
+returns : tie.Need-returns
+returns c = refused-is answered _ _ _ _ (given-refuses _ _ _ (c .before .given .ensures) (c .if1 .taken)) (c .if1 .taken)
+
 with-mask-requires : tie.Need-with-mask-requires
 with-mask-requires c κs = search needs
 
-returns : tie.Need-returns
-returns c = ap (answered 0) (c .with-mask .ensures)
+returns-2 : tie.Need-returns-2
+returns-2 c =
+    let d = c .before in
+    done-is answered _ _ _ _ _ (own-decides _ _ _ (d .before .given .ensures) (d .if1 .left) refl) refl (c .with-mask .ensures)
 
 pub reset-refresh-spec : {M : Type 1} → statement M
-reset-refresh-spec = tie.close (tie.spec with-mask-requires returns)
+reset-refresh-spec = tie.close (tie.spec given-requires returns with-mask-requires returns-2)
