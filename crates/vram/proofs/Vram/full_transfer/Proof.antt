@@ -39,7 +39,8 @@ copy-requires c κs =
     let a = d .before .before .before .before .args in
     let z = full-zero _ (a .row) (a .half) (sym (e .before .full-refusal .ensures) ∙ e .if2 .left) in
     let w = transfer-within (length (a .memory .now)) (a .row) (a .half) 0 256 (z .0) (z .1) (omega arith) in
-    (omega (arith, p .place .ensures, w), omega (arith, given-zero _ _ _ (sym (d .before .given .ensures) ∙ d .if1 .left) .register))
+    let g = given-zero _ _ _ (sym (d .before .given .ensures) ∙ d .if1 .left) in
+    (omega (arith, p .place .ensures, w), omega (arith, g .register))
 
 with-serial-requires : tie.Need-with-serial-requires
 with-serial-requires c κs = search needs
@@ -54,7 +55,8 @@ returns-3 c =
     let e = p .before in
     let d = e .before .before in
     let a = d .before .before .before .before .args in
-    transfer-done _ _ _ _ _ _ (own-decides _ _ _ (d .before .given .ensures) (d .if1 .left) (e .before .full-refusal .ensures)) (e .if2 .left) (c .with-serial .ensures)
+    transfer-done _ _ _ _ _ _ (own-decides _ _ _ (d .before .given .ensures) (d .if1 .left) (e .before .full-refusal .ensures)) (e .if2 .left)
+    (c .with-serial .ensures)
     (k .copy .ensures ∙ ap (λ (i : ℕ). copied (a .memory .now) i (a .serial .now) 0 256) (p .place .ensures))
 
 pub full-transfer-spec : {M : Type 1} → statement M

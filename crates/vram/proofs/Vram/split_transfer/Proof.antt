@@ -52,7 +52,8 @@ copy-requires c κs =
     let a = d .before .before .before .before .args in
     let z = split-zero _ (a .self .loaded) (a .row) (a .half) (a .tap) (sym (e .before .split-refusal .ensures) ∙ e .if2 .left) in
     let w = transfer-within (length (a .memory .now)) (a .row) (a .half) (h .other-half .result) 128 (z .row-fitted) (z .half-within) (omega (arith, h .other-half .ensures .1)) in
-    (omega (arith, p .place .ensures, w), omega (arith, given-zero _ _ _ (sym (d .before .given .ensures) ∙ d .if1 .left) .register, h .other-half .ensures .1))
+    let g = given-zero _ _ _ (sym (d .before .given .ensures) ∙ d .if1 .left) in
+    (omega (arith, p .place .ensures, w), omega (arith, g .register, h .other-half .ensures .1))
 
 add-t22 : tie.Need-add-t22
 add-t22 c =
