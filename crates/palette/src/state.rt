@@ -100,9 +100,7 @@ impl Palette {
         ensures { λ r. ⌜ r ≡ moved self ⌝ }
     {
         let phase = self.phase;
-        if phase < 2 {
-            return self.with_phase(phase + 1);
-        }
-        self.with_phase(0)
+        let next = if phase < 2 { phase + 1 } else { 0 };
+        self.with_phase(next)
     }
 }
