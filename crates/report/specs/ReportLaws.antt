@@ -57,7 +57,7 @@ memory-size list = go (eqb (verdictOf list start .number) 0) refl
 
 -- ---- a text has at most 491,540 bytes
 
-pub answer-most : (number place : ℕ) → length (answerLine number place) ≤ 20
+answer-most : (number place : ℕ) → length (answerLine number place) ≤ 20
 unfolding answerLine
 answer-most number place =
     let a = decimal-most number in

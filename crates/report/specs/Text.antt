@@ -10,13 +10,13 @@ use lib.Dec.{eqb, ltb}
 unfoldable pub digit : ℕ → ℕ
 digit d = cond (ltb d 10) (48 + d) (55 + d)
 
+-- the digit of a number that counts 10, 100 or 1,000; nothing where the number is smaller
+abbrev pub digitFrom : ℕ → ℕ → List ℕ
+digitFrom least n = cond (ltb n least) [] (digit (n / least % 10) ∷ [])
+
 -- in decimal, of a number below 10,000
 unfoldable pub decimal : ℕ → List ℕ
-decimal n =
-    cond (ltb n 10) (digit n ∷ [])
-    (cond (ltb n 100) (digit (n / 10) ∷ digit (n % 10) ∷ [])
-    (cond (ltb n 1000) (digit (n / 100) ∷ digit (n / 10 % 10) ∷ digit (n % 10) ∷ [])
-    (digit (n / 1000) ∷ digit (n / 100 % 10) ∷ digit (n / 10 % 10) ∷ digit (n % 10) ∷ [])))
+decimal n = digitFrom 1000 n ++ (digitFrom 100 n ++ (digitFrom 10 n ++ (digit (n % 10) ∷ [])))
 
 -- a word in four capital hex digits
 unfoldable pub hex : ℕ → List ℕ

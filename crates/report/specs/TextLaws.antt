@@ -11,7 +11,7 @@ use lib.ListN.{length, getD, set, take, length-append, length-take}
 use lib.Seq.{sets, length-sets, take-suc}
 use Rattle.numbers.specs.Buffer.{over}
 use Rattle.numbers.specs.BufferLaws.{sets-append, over-sets}
-use Rattle.report.specs.Text.{digit, decimal, hex, wordLine, wordLines}
+use Rattle.report.specs.Text.{digit, digitFrom, decimal, hex, wordLine, wordLines}
 
 -- ---- bytes written from a place of a buffer on, and the place after them
 
@@ -33,19 +33,8 @@ put-then {t} {t₁} {t₂} {a} {b} {at} {at₁} {at₂} p q =
       end = q .end ∙ ap (λ (n : ℕ). n + length b) (p .end) ∙ omega (arith, length-append a b);
     }
 
--- the last byte, and a byte with others after it, by what the byte is
-pub put-last : {t t₁ : List ℕ} {at at₁ x d : ℕ} → Put t at (x ∷ []) t₁ at₁ → x ≡ d → Put t at (d ∷ []) t₁ at₁
-put-last p e = rw (← e) p
-
-pub put-first : {t t₁ t₂ rest : List ℕ} {at at₁ at₂ x d : ℕ} → Put t at (x ∷ []) t₁ at₁ → x ≡ d → Put t₁ at₁ rest t₂ at₂ → Put t at (d ∷ rest) t₂ at₂
-put-first p e q = put-then (put-last p e) q
-
 pub put-size : {t t′ bs : List ℕ} {at at′ : ℕ} → Put t at bs t′ at′ → length t′ ≡ length t
 put-size {t} {t′} {bs} {at} p = ap length (p .text) ∙ length-sets t at bs
-
--- room for more is left
-pub put-room : {t t′ bs : List ℕ} {at at′ : ℕ} (k m : ℕ) → Put t at bs t′ at′ → length bs ≤ k → at + (k + m) ≤ length t → at′ + m ≤ length t′
-put-room k m p h l = omega (arith, p .end, put-size p)
 
 -- one byte more of some
 pub put-next : (t now bs : List ℕ) (at i : ℕ) → i < length bs → now ≡ sets t at (take i bs) → set now (at + i) (getD bs i 0) ≡ sets t at (take (i + 1) bs)
@@ -60,22 +49,20 @@ put-over {t} {t′} {bs} p h = p .text ∙ over-sets bs t h
 
 -- ---- lengths
 
-pub decimal-most : (n : ℕ) → (length (decimal n) ≤ 4) × (1 ≤ length (decimal n))
-unfolding decimal
-decimal-most n = go (ltb n 10) (ltb n 100) (ltb n 1000)
+digitFrom-most : (least n : ℕ) → length (digitFrom least n) ≤ 1
+digitFrom-most least n = go (ltb n least)
   where
-    bytes : Bool → Bool → Bool → List ℕ
-    bytes a b c =
-        cond a (digit n ∷ [])
-        (cond b (digit (n / 10) ∷ digit (n % 10) ∷ [])
-        (cond c (digit (n / 100) ∷ digit (n / 10 % 10) ∷ digit (n % 10) ∷ [])
-        (digit (n / 1000) ∷ digit (n / 100 % 10) ∷ digit (n / 10 % 10) ∷ digit (n % 10) ∷ [])))
+    go : (t : Bool) → length (cond t [] (digit (n / least % 10) ∷ [])) ≤ 1
+    go true = omega arith
+    go false = omega arith
 
-    go : (a b c : Bool) → (length (bytes a b c) ≤ 4) × (1 ≤ length (bytes a b c))
-    go true b c = (omega arith, omega arith)
-    go false true c = (omega arith, omega arith)
-    go false false true = (omega arith, omega arith)
-    go false false false = (omega arith, omega arith)
+pub decimal-most : (n : ℕ) → length (decimal n) ≤ 4
+unfolding decimal
+decimal-most n =
+    let a = digitFrom-most 1000 n in
+    let b = digitFrom-most 100 n in
+    let c = digitFrom-most 10 n in
+    simp length-append (omega arith)
 
 -- a line of a word has at most 15 bytes
 pub line-most : (i w : ℕ) → length (wordLine i w) ≤ 15
@@ -124,10 +111,6 @@ lines-most ws i h = go i h
         let m = go i (omega arith) in
         let k = lineOf-most i (getD ws i 0) in
         rw (← add-one i, lines-more ws i (omega arith), length-append) (omega arith)
-
-pub hex-most : (w : ℕ) → length (hex w) ≤ 4
-unfolding hex
-hex-most w = omega arith
 
 -- the lines of all words, by those of the first and the last one
 pub put-lines : {t t₁ t₂ : List ℕ} {at at₁ at₂ : ℕ} (ws : List ℕ) (i w : ℕ) → i < length ws → w ≡ getD ws i 0

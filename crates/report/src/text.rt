@@ -3,7 +3,7 @@ ghost use mathlib.Core.Path.{_≡_};
 ghost use mathlib.Core.List.{[], _∷_};
 ghost use Prim.Native.Nat.{_+_, _*_, _<_, _≤_};
 ghost use lib.ListN.{length};
-ghost use Rattle.report.specs.Text.{digit, decimal, hex, answerLine, wordLine, wordLines};
+ghost use Rattle.report.specs.Text.{digit, digitFrom, decimal, hex, answerLine, wordLine, wordLines};
 ghost use Rattle.report.specs.TextLaws.{Put, lineOf};
 
 // A digit, 0 to 9 and then A to F.
@@ -26,38 +26,44 @@ fn put_byte(text: &mut [u8], at: usize, byte: u8) -> usize
     at + 1
 }
 
+fn put_digit(text: &mut [u8], at: usize, d: u32) -> usize
+    requires { ⌜ (d < 16) × (at < length (now text)) ⌝ }
+    ensures { λ r. ⌜ Put (now (text .entry)) at (digit d ∷ []) (now (text .exit)) r ⌝ }
+{
+    put_byte(text, at, digit(d))
+}
+
+// The digit of a number that counts 10, 100 or 1,000. Nothing where the number is smaller.
+fn put_from(text: &mut [u8], at: usize, n: u32, least: u32) -> usize
+    requires { ⌜ (0 < least) × (at < length (now text)) ⌝ }
+    ensures { λ r. ⌜ Put (now (text .entry)) at (digitFrom least n) (now (text .exit)) r × (r ≤ at + 1) ⌝ }
+{
+    if n < least {
+        return at;
+    }
+    put_digit(text, at, n / least % 10)
+}
+
 // A number below 10,000 in decimal.
 fn put_decimal(text: &mut [u8], at: usize, n: u32) -> usize
     requires { ⌜ (n < 10000) × (at + 4 ≤ length (now text)) ⌝ }
-    ensures { λ r. ⌜ Put (now (text .entry)) at (decimal n) (now (text .exit)) r ⌝ }
+    ensures { λ r. ⌜ Put (now (text .entry)) at (decimal n) (now (text .exit)) r × (r ≤ at + 4) ⌝ }
 {
-    if n < 10 {
-        return put_byte(text, at, digit(n));
-    }
-    if n < 100 {
-        let at = put_byte(text, at, digit(n / 10));
-        return put_byte(text, at, digit(n % 10));
-    }
-    if n < 1000 {
-        let at = put_byte(text, at, digit(n / 100));
-        let at = put_byte(text, at, digit(n / 10 % 10));
-        return put_byte(text, at, digit(n % 10));
-    }
-    let at = put_byte(text, at, digit(n / 1000));
-    let at = put_byte(text, at, digit(n / 100 % 10));
-    let at = put_byte(text, at, digit(n / 10 % 10));
-    put_byte(text, at, digit(n % 10))
+    let at = put_from(text, at, n, 1000);
+    let at = put_from(text, at, n, 100);
+    let at = put_from(text, at, n, 10);
+    put_digit(text, at, n % 10)
 }
 
 // A word in four capital hex digits.
 fn put_hex(text: &mut [u8], at: usize, word: u32) -> usize
     requires { ⌜ at + 4 ≤ length (now text) ⌝ }
-    ensures { λ r. ⌜ Put (now (text .entry)) at (hex word) (now (text .exit)) r ⌝ }
+    ensures { λ r. ⌜ Put (now (text .entry)) at (hex word) (now (text .exit)) r × (r ≤ at + 4) ⌝ }
 {
-    let at = put_byte(text, at, digit(word / 4096 % 16));
-    let at = put_byte(text, at, digit(word / 256 % 16));
-    let at = put_byte(text, at, digit(word / 16 % 16));
-    put_byte(text, at, digit(word % 16))
+    let at = put_digit(text, at, word / 4096 % 16);
+    let at = put_digit(text, at, word / 256 % 16);
+    let at = put_digit(text, at, word / 16 % 16);
+    put_digit(text, at, word % 16)
 }
 
 // A line of a word: row and column in decimal, the word in hex.
@@ -101,7 +107,7 @@ pub(crate) fn put_words(text: &mut [u8], at: usize, memory: &[u16]) -> usize
 // The first line.
 pub(crate) fn put_answer(text: &mut [u8], at: usize, number: u32, place: u32) -> usize
     requires { ⌜ (number < 10000) × (place < 10000) × (at + 20 ≤ length (now text)) ⌝ }
-    ensures { λ r. ⌜ Put (now (text .entry)) at (answerLine number place) (now (text .exit)) r ⌝ }
+    ensures { λ r. ⌜ Put (now (text .entry)) at (answerLine number place) (now (text .exit)) r × (r ≤ at + 20) ⌝ }
 {
     let at = put_bytes(text, at, b"answer ");
     let at = put_decimal(text, at, number);

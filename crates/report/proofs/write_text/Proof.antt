@@ -7,8 +7,8 @@ use lib.ListN.{replicate}
 use Rattle.vram.specs.declared.Vram.{Vram}
 use Rattle.vram.specs.Board.{board}
 use Rattle.list.specs.Meaning.{runCall}
-use Rattle.report.specs.TextLaws.{Put, put-then, put-room}
-use Rattle.report.specs.ReportLaws.{text-long, ran-size, ran-few, ran-refused, ran-done, answer-most}
+use Rattle.report.specs.TextLaws.{Put, put-then}
+use Rattle.report.specs.ReportLaws.{text-long, ran-size, ran-few, ran-refused, ran-done}
 use borrow.Author.Needs.{needs}
 use Rattle.report.proofs.write_text.Statement.{statement}
 use Rattle.report.proofs.write_text.Tie as tie
@@ -69,7 +69,7 @@ returns-2 c =
     let f = r .before .before .before in
     let a = f .before .before .before .before .args in
     let e = r .run .ensures ∙ ap (λ (v : Vram). runCall (a .list .now) (board v (replicate 32768 0) (replicate 256 0))) (f .fresh .ensures) in
-    subst (λ (l : List ℕ). Put (a .page .now) 0 l (p .put-answer .last .0) (p .put-answer .result)) (ran-refused (a .list .now) _ _ _ e (f .before .if1 .left) (c .if2 .taken)) (p .put-answer .ensures)
+    subst (λ (l : List ℕ). Put (a .page .now) 0 l (p .put-answer .last .0) (p .put-answer .result)) (ran-refused (a .list .now) _ _ _ e (f .before .if1 .left) (c .if2 .taken)) (p .put-answer .ensures .0)
 
 slice-aggregate-put-words : tie.Need-slice-aggregate-put-words
 slice-aggregate-put-words c = search needs
@@ -83,7 +83,7 @@ put-words-requires c κs =
     let a = s .args in
     let e = r .run .ensures ∙ ap (λ (v : Vram). runCall (a .list .now) (board v (replicate 32768 0) (replicate 256 0))) (f .fresh .ensures) in
     let z = ran-size (a .list .now) _ _ _ e in
-    (omega (arith, z), omega (arith, z, put-room 20 491520 (p .put-answer .ensures) (answer-most _ _) (omega (arith, s .pre))))
+    (omega (arith, z), omega (arith, z, p .put-answer .ensures .1, s .pre))
 
 same-length-3 : tie.Need-same-length-3
 same-length-3 c = search needs
@@ -98,7 +98,7 @@ returns-3 c =
     let a = f .before .before .before .before .args in
     let e = r .run .ensures ∙ ap (λ (v : Vram). runCall (a .list .now) (board v (replicate 32768 0) (replicate 256 0))) (f .fresh .ensures) in
     subst (λ (l : List ℕ). Put (a .page .now) 0 l (w .put-words .last .0) (w .put-words .result)) (ran-done (a .list .now) _ _ _ e (f .before .if1 .left) (d .if2 .left))
-    (put-then (p .put-answer .ensures) (w .put-words .ensures))
+    (put-then (p .put-answer .ensures .0) (w .put-words .ensures))
 
 pub write-text-spec : {M : Type 1} → statement M
 write-text-spec =
