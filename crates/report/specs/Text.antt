@@ -18,6 +18,10 @@ digitFrom least n = cond (ltb n least) [] (digit (n / least % 10) ∷ [])
 unfoldable pub decimal : ℕ → List ℕ
 decimal n = digitFrom 1000 n ++ (digitFrom 100 n ++ (digitFrom 10 n ++ (digit (n % 10) ∷ [])))
 
+-- in decimal, with a byte after it
+abbrev pub numberThen : ℕ → ℕ → List ℕ
+numberThen after n = decimal n ++ (after ∷ [])
+
 -- a word in four capital hex digits
 unfoldable pub hex : ℕ → List ℕ
 hex w = digit (w / 4096 % 16) ∷ digit (w / 256 % 16) ∷ digit (w / 16 % 16) ∷ digit (w % 16) ∷ []
@@ -27,16 +31,20 @@ hex w = digit (w / 4096 % 16) ∷ digit (w / 256 % 16) ∷ digit (w / 16 % 16) �
 -- `answer`, the number, `at`, the place
 unfoldable pub answerLine : ℕ → ℕ → List ℕ
 answerLine number place =
-    (97 ∷ 110 ∷ 115 ∷ 119 ∷ 101 ∷ 114 ∷ 32 ∷ []) ++ (decimal number ++ ((32 ∷ 97 ∷ 116 ∷ 32 ∷ []) ++ (decimal place ++ (10 ∷ []))))
+    (97 ∷ 110 ∷ 115 ∷ 119 ∷ 101 ∷ 114 ∷ 32 ∷ []) ++ (numberThen 32 number ++ ((97 ∷ 116 ∷ 32 ∷ []) ++ numberThen 10 place))
 
 -- row and column in decimal, the word in four capital hex digits
 unfoldable pub wordLine : ℕ → ℕ → List ℕ
-wordLine i w = decimal (i / 512) ++ (32 ∷ (decimal (i % 512) ++ (32 ∷ (hex w ++ (10 ∷ [])))))
+wordLine i w = numberThen 32 (i / 512) ++ (numberThen 32 (i % 512) ++ (hex w ++ (10 ∷ [])))
 
 -- a line for each word not 0, by row and then column; the first word given is word i
 unfoldable pub wordLines : ℕ → List ℕ → List ℕ
 wordLines i [] = []
 wordLines i (w ∷ ws) = cond (eqb w 0) [] (wordLine i w) ++ wordLines (suc i) ws
+
+-- the answer line, and after it the words not 0; after a refusal only the first line
+abbrev pub allLines : ℕ → ℕ → List ℕ → List ℕ
+allLines number place memory = answerLine number place ++ cond (eqb number 0) (wordLines 0 memory) []
 
 -- `too long`
 abbrev pub tooLong : List ℕ

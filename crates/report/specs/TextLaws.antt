@@ -1,5 +1,5 @@
 -- Laws of texts: how one is written after another, and how long they are. Assumes nothing.
-use mathlib.Core.Path.{_≡_, refl, sym, ap, ap₂, _∙_}
+use mathlib.Core.Path.{_≡_, refl, sym, ap, ap₂, _∙_, subst}
 use mathlib.Core.Bool.{Bool, true, false, cond}
 use mathlib.Core.List.{List, [], _∷_, _++_, append-assoc, append-nil}
 use Prim.Native.Nat.{ℕ, zero, suc, _+_, _*_, _/_, _%_, _≤_, _<_}
@@ -8,10 +8,10 @@ use native.Mathlib.Nat.{add-zero}
 use native.Mathlib.Numerals.{add-one}
 use lib.Dec.{eqb, ltb}
 use lib.ListN.{length, getD, set, take, length-append, length-take}
-use lib.Seq.{sets, length-sets, take-suc}
+use lib.Seq.{sets, length-sets, take-suc, take-all}
 use Rattle.numbers.specs.Buffer.{over}
 use Rattle.numbers.specs.BufferLaws.{sets-append, over-sets}
-use Rattle.report.specs.Text.{digit, digitFrom, decimal, hex, wordLine, wordLines}
+use Rattle.report.specs.Text.{digit, digitFrom, decimal, hex, answerLine, wordLine, wordLines, allLines}
 
 -- ---- bytes written from a place of a buffer on, and the place after them
 
@@ -111,6 +111,29 @@ lines-most ws i h = go i h
         let m = go i (omega arith) in
         let k = lineOf-most i (getD ws i 0) in
         rw (← add-one i, lines-more ws i (omega arith), length-append) (omega arith)
+
+answer-most : (number place : ℕ) → length (answerLine number place) ≤ 20
+unfolding answerLine
+answer-most number place =
+    let a = decimal-most number in
+    let b = decimal-most place in
+    simp length-append (omega arith)
+
+words-most : (ws : List ℕ) → length (wordLines 0 ws) ≤ 15 * length ws
+words-most ws = subst (λ (l : List ℕ). length (wordLines 0 l) ≤ 15 * length ws) (take-all (length ws) ws (omega arith)) (lines-most ws (length ws) (omega arith))
+
+-- the words may be left away: a text with them is the longest
+pub allLines-most : (number place : ℕ) (memory : List ℕ) → length (allLines number place memory) ≤ 20 + 15 * length memory
+allLines-most number place memory = go (eqb number 0)
+  where
+    go : (t : Bool) → length (answerLine number place ++ cond t (wordLines 0 memory) []) ≤ 20 + 15 * length memory
+    go true =
+        let a = answer-most number place in
+        let b = words-most memory in
+        simp length-append (omega arith)
+    go false =
+        let a = answer-most number place in
+        simp length-append (omega arith)
 
 -- the lines of all words, by those of the first and the last one
 pub put-lines : {t t₁ t₂ : List ℕ} {at at₁ at₂ : ℕ} (ws : List ℕ) (i w : ℕ) → i < length ws → w ≡ getD ws i 0

@@ -3,7 +3,7 @@ ghost use mathlib.Core.Path.{_≡_};
 ghost use mathlib.Core.List.{[], _∷_};
 ghost use Prim.Native.Nat.{_+_, _*_, _<_, _≤_};
 ghost use lib.ListN.{length};
-ghost use Rattle.report.specs.Text.{digit, digitFrom, decimal, hex, answerLine, wordLine, wordLines};
+ghost use Rattle.report.specs.Text.{digit, digitFrom, decimal, numberThen, hex, answerLine, wordLine, wordLines, allLines};
 ghost use Rattle.report.specs.TextLaws.{Put, lineOf};
 
 // A digit, 0 to 9 and then A to F.
@@ -55,15 +55,30 @@ fn put_decimal(text: &mut [u8], at: usize, n: u32) -> usize
     put_digit(text, at, n % 10)
 }
 
+// A number below 10,000 in decimal, and a byte after it.
+fn put_number(text: &mut [u8], at: usize, n: u32, after: u8) -> usize
+    requires { ⌜ (n < 10000) × (at + 5 ≤ length (now text)) ⌝ }
+    ensures { λ r. ⌜ Put (now (text .entry)) at (numberThen after n) (now (text .exit)) r × (r ≤ at + 5) ⌝ }
+{
+    let at = put_decimal(text, at, n);
+    put_byte(text, at, after)
+}
+
+fn put_two(text: &mut [u8], at: usize, first: u32, second: u32) -> usize
+    requires { ⌜ (first < 16) × (second < 16) × (at + 2 ≤ length (now text)) ⌝ }
+    ensures { λ r. ⌜ Put (now (text .entry)) at (digit first ∷ digit second ∷ []) (now (text .exit)) r ⌝ }
+{
+    let at = put_digit(text, at, first);
+    put_digit(text, at, second)
+}
+
 // A word in four capital hex digits.
 fn put_hex(text: &mut [u8], at: usize, word: u32) -> usize
     requires { ⌜ at + 4 ≤ length (now text) ⌝ }
     ensures { λ r. ⌜ Put (now (text .entry)) at (hex word) (now (text .exit)) r × (r ≤ at + 4) ⌝ }
 {
-    let at = put_digit(text, at, word / 4096 % 16);
-    let at = put_digit(text, at, word / 256 % 16);
-    let at = put_digit(text, at, word / 16 % 16);
-    put_digit(text, at, word % 16)
+    let at = put_two(text, at, word / 4096 % 16, word / 256 % 16);
+    put_two(text, at, word / 16 % 16, word % 16)
 }
 
 // A line of a word: row and column in decimal, the word in hex.
@@ -71,10 +86,8 @@ fn put_line(text: &mut [u8], at: usize, i: u32, word: u32) -> usize
     requires { ⌜ (i < 32768) × (at + 15 ≤ length (now text)) ⌝ }
     ensures { λ r. ⌜ Put (now (text .entry)) at (wordLine i word) (now (text .exit)) r ⌝ }
 {
-    let at = put_decimal(text, at, i / 512);
-    let at = put_byte(text, at, b' ');
-    let at = put_decimal(text, at, i % 512);
-    let at = put_byte(text, at, b' ');
+    let at = put_number(text, at, i / 512, b' ');
+    let at = put_number(text, at, i % 512, b' ');
     let at = put_hex(text, at, word);
     put_byte(text, at, b'\n')
 }
@@ -91,7 +104,7 @@ fn put_word(text: &mut [u8], at: usize, i: u32, word: u32) -> usize
 }
 
 // A line for each word that is not 0.
-pub(crate) fn put_words(text: &mut [u8], at: usize, memory: &[u16]) -> usize
+fn put_words(text: &mut [u8], at: usize, memory: &[u16]) -> usize
     requires { ⌜ (length (now memory) ≤ 32768) × (at + 15 * length (now memory) ≤ length (now text)) ⌝ }
     ensures { λ r. ⌜ Put (now (text .entry)) at (wordLines 0 (now (memory .entry))) (now (text .exit)) r ⌝ }
 {
@@ -105,15 +118,32 @@ pub(crate) fn put_words(text: &mut [u8], at: usize, memory: &[u16]) -> usize
 }
 
 // The first line.
-pub(crate) fn put_answer(text: &mut [u8], at: usize, number: u32, place: u32) -> usize
+fn put_answer(text: &mut [u8], at: usize, number: u32, place: u32) -> usize
     requires { ⌜ (number < 10000) × (place < 10000) × (at + 20 ≤ length (now text)) ⌝ }
     ensures { λ r. ⌜ Put (now (text .entry)) at (answerLine number place) (now (text .exit)) r × (r ≤ at + 20) ⌝ }
 {
     let at = put_bytes(text, at, b"answer ");
-    let at = put_decimal(text, at, number);
-    let at = put_bytes(text, at, b" at ");
-    let at = put_decimal(text, at, place);
-    put_byte(text, at, b'\n')
+    let at = put_number(text, at, number, b' ');
+    let at = put_bytes(text, at, b"at ");
+    put_number(text, at, place, b'\n')
+}
+
+// The first line, and after it the words where nothing was refused.
+pub(crate) fn put_lines(
+    text: &mut [u8],
+    at: usize,
+    number: u32,
+    place: u32,
+    memory: &[u16],
+) -> usize
+    requires { ⌜ (number < 10000) × (place < 10000) × (length (now memory) ≤ 32768) × (at + 491540 ≤ length (now text)) ⌝ }
+    ensures { λ r. ⌜ Put (now (text .entry)) at (allLines number place (now (memory .entry))) (now (text .exit)) r ⌝ }
+{
+    let at = put_answer(text, at, number, place);
+    if number != numbers::DONE {
+        return at;
+    }
+    put_words(text, at, memory)
 }
 
 // Some bytes, as they are.

@@ -1,4 +1,4 @@
--- `report::text::put_answer` meets its contract: five texts, one after the other, with room for each. Assumes nothing.
+-- `report::text::put_answer` meets its contract: four texts, one after the other. Assumes nothing.
 use native.Mathlib.Omega.{arith}
 use Rattle.report.specs.Text.{answerLine}
 use Rattle.report.specs.TextLaws.{put-then}
@@ -12,8 +12,8 @@ slice-aggregate-put-bytes c = search needs
 put-bytes-requires : tie.Need-put-bytes-requires
 put-bytes-requires c κs = search needs
 
-put-decimal-requires : tie.Need-put-decimal-requires
-put-decimal-requires c κs = search needs
+put-number-requires : tie.Need-put-number-requires
+put-number-requires c κs = search needs
 
 slice-aggregate-put-bytes-2 : tie.Need-slice-aggregate-put-bytes-2
 slice-aggregate-put-bytes-2 c = search needs
@@ -21,11 +21,8 @@ slice-aggregate-put-bytes-2 c = search needs
 put-bytes-requires-2 : tie.Need-put-bytes-requires-2
 put-bytes-requires-2 c κs = search needs
 
-put-decimal-requires-2 : tie.Need-put-decimal-requires-2
-put-decimal-requires-2 c κs = search needs
-
-put-byte-requires : tie.Need-put-byte-requires
-put-byte-requires c κs = search needs
+put-number-requires-2 : tie.Need-put-number-requires-2
+put-number-requires-2 c κs = search needs
 
 same-length : tie.Need-same-length
 same-length c = search needs
@@ -33,15 +30,13 @@ same-length c = search needs
 returns : tie.Need-returns
 unfolding answerLine
 returns c =
-    let b = c .before .before in
-    let d₂ = b .before .before .before .before in
-    let a₂ = d₂ .before .before .before .before in
-    let d₁ = a₂ .before .before .before .before .before in
-    let a₁ = d₁ .before .before .before .before in (
-      put-then (a₁ .put-bytes .ensures)
-          (put-then (d₁ .put-decimal .ensures .0)
-          (put-then (a₂ .put-bytes2 .ensures) (put-then (d₂ .put-decimal2 .ensures .0) (b .put-byte .ensures)))),
-      omega (arith, a₁ .put-bytes .ensures .end, d₁ .put-decimal .ensures .1, a₂ .put-bytes2 .ensures .end, d₂ .put-decimal2 .ensures .1, b .put-byte .ensures .end),
+    let n₂ = c .before .before in
+    let b₂ = n₂ .before .before .before .before in
+    let n₁ = b₂ .before .before .before .before .before in
+    let b₁ = n₁ .before .before .before .before in (
+      put-then (b₁ .put-bytes .ensures)
+          (put-then (n₁ .put-number .ensures .0) (put-then (b₂ .put-bytes2 .ensures) (n₂ .put-number2 .ensures .0))),
+      omega (arith, b₁ .put-bytes .ensures .end, n₁ .put-number .ensures .1, b₂ .put-bytes2 .ensures .end, n₂ .put-number2 .ensures .1),
     )
 
 pub put-answer-spec : {M : Type 1} → statement M
@@ -50,10 +45,9 @@ put-answer-spec =
     (tie.spec
     slice-aggregate-put-bytes
     put-bytes-requires
-    put-decimal-requires
+    put-number-requires
     slice-aggregate-put-bytes-2
     put-bytes-requires-2
-    put-decimal-requires-2
-    put-byte-requires
+    put-number-requires-2
     same-length
     returns)
