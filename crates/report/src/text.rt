@@ -3,7 +3,7 @@ ghost use mathlib.Core.Path.{_≡_};
 ghost use mathlib.Core.List.{[], _∷_};
 ghost use Prim.Native.Nat.{_+_, _*_, _<_, _≤_};
 ghost use lib.ListN.{length};
-ghost use Rattle.report.specs.Text.{digit, digitFrom, decimal, numberThen, hex, answerLine, wordLine, wordLines, allLines};
+ghost use Rattle.report.specs.Text.{digit, digitFrom, numberThen, hex, answerLine, wordLine, wordLines, allLines};
 ghost use Rattle.report.specs.TextLaws.{Put, lineOf};
 
 // A digit, 0 to 9 and then A to F.
@@ -44,32 +44,16 @@ fn put_from(text: &mut [u8], at: usize, n: u32, least: u32) -> usize
     put_digit(text, at, n / least % 10)
 }
 
-// A number below 10,000 in decimal.
-fn put_decimal(text: &mut [u8], at: usize, n: u32) -> usize
-    requires { ⌜ (n < 10000) × (at + 4 ≤ length (now text)) ⌝ }
-    ensures { λ r. ⌜ Put (now (text .entry)) at (decimal n) (now (text .exit)) r × (r ≤ at + 4) ⌝ }
-{
-    let at = put_from(text, at, n, 1000);
-    let at = put_from(text, at, n, 100);
-    let at = put_from(text, at, n, 10);
-    put_digit(text, at, n % 10)
-}
-
 // A number below 10,000 in decimal, and a byte after it.
 fn put_number(text: &mut [u8], at: usize, n: u32, after: u8) -> usize
     requires { ⌜ (n < 10000) × (at + 5 ≤ length (now text)) ⌝ }
     ensures { λ r. ⌜ Put (now (text .entry)) at (numberThen after n) (now (text .exit)) r × (r ≤ at + 5) ⌝ }
 {
-    let at = put_decimal(text, at, n);
+    let at = put_from(text, at, n, 1000);
+    let at = put_from(text, at, n, 100);
+    let at = put_from(text, at, n, 10);
+    let at = put_digit(text, at, n % 10);
     put_byte(text, at, after)
-}
-
-fn put_two(text: &mut [u8], at: usize, first: u32, second: u32) -> usize
-    requires { ⌜ (first < 16) × (second < 16) × (at + 2 ≤ length (now text)) ⌝ }
-    ensures { λ r. ⌜ Put (now (text .entry)) at (digit first ∷ digit second ∷ []) (now (text .exit)) r ⌝ }
-{
-    let at = put_digit(text, at, first);
-    put_digit(text, at, second)
 }
 
 // A word in four capital hex digits.
@@ -77,8 +61,10 @@ fn put_hex(text: &mut [u8], at: usize, word: u32) -> usize
     requires { ⌜ at + 4 ≤ length (now text) ⌝ }
     ensures { λ r. ⌜ Put (now (text .entry)) at (hex word) (now (text .exit)) r × (r ≤ at + 4) ⌝ }
 {
-    let at = put_two(text, at, word / 4096 % 16, word / 256 % 16);
-    put_two(text, at, word / 16 % 16, word % 16)
+    let at = put_digit(text, at, word / 4096 % 16);
+    let at = put_digit(text, at, word / 256 % 16);
+    let at = put_digit(text, at, word / 16 % 16);
+    put_digit(text, at, word % 16)
 }
 
 // A line of a word: row and column in decimal, the word in hex.

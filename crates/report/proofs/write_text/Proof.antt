@@ -4,6 +4,14 @@ use borrow.Author.Needs.{needs}
 use Rattle.report.proofs.write_text.Statement.{statement}
 use Rattle.report.proofs.write_text.Tie as tie
 
+write-lines-requires : tie.Need-write-lines-requires
+write-lines-requires c κs = search needs
+
+returns-2 : tie.Need-returns-2
+returns-2 c =
+    let w = c .before .before in
+    rw (← (text-short _ (w .before .before .if1 .left))) (w .write-lines .ensures)
+
 slice-aggregate-put-bytes : tie.Need-slice-aggregate-put-bytes
 slice-aggregate-put-bytes c = search needs
 
@@ -18,16 +26,8 @@ returns c =
     let p = c .before .before in
     rw (← (text-long _ (p .before .before .before .if1 .taken))) (p .put-bytes .ensures)
 
-write-lines-requires : tie.Need-write-lines-requires
-write-lines-requires c κs = search needs
-
 same-length-2 : tie.Need-same-length-2
 same-length-2 c = search needs
-
-returns-2 : tie.Need-returns-2
-returns-2 c =
-    let w = c .before .before in
-    rw (← (text-short _ (w .before .before .if1 .left))) (w .write-lines .ensures)
 
 pub write-text-spec : {M : Type 1} → statement M
 write-text-spec =
