@@ -1,12 +1,14 @@
 -- Laws of texts: how one is written after another, and how long they are. Assumes nothing.
 use mathlib.Core.Path.{_≡_, refl, sym, ap, ap₂, _∙_, subst}
 use mathlib.Core.Bool.{Bool, true, false, cond}
+use mathlib.Core.Logic.{_≢_}
 use mathlib.Core.List.{List, [], _∷_, _++_, append-assoc, append-nil}
 use Prim.Native.Nat.{ℕ, zero, suc, _+_, _*_, _/_, _%_, _≤_, _<_}
 use native.Mathlib.Omega.{arith}
 use native.Mathlib.Nat.{add-zero}
 use native.Mathlib.Numerals.{add-one}
 use lib.Dec.{eqb, ltb}
+use borrow.Author.Tests.{eq-eqb, ne-eqb}
 use lib.ListN.{length, getD, set, take, length-append, length-take}
 use lib.Seq.{sets, length-sets, take-suc, take-all}
 use Rattle.numbers.specs.Buffer.{over}
@@ -134,6 +136,22 @@ allLines-most number place memory = go (eqb number 0)
     go false =
         let a = answer-most number place in
         simp length-append (omega arith)
+
+-- ---- where a text is written or not
+
+pub put-no-line : {t : List ℕ} {at w : ℕ} (i : ℕ) → w ≡ 0 → Put t at (lineOf i w) t at
+put-no-line {t} {at} {w} i h = rw (eq-eqb w 0 h) (put-nothing t at)
+
+pub put-a-line : {t t′ : List ℕ} {at at′ w : ℕ} (i : ℕ) → w ≢ 0 → Put t at (wordLine i w) t′ at′ → Put t at (lineOf i w) t′ at′
+put-a-line {w = w} i h p = rw (ne-eqb w 0 h) p
+
+pub put-refused : {t t′ : List ℕ} {at at′ number : ℕ} (place : ℕ) (memory : List ℕ) → number ≢ 0
+    → Put t at (answerLine number place) t′ at′ → Put t at (allLines number place memory) t′ at′
+put-refused {number = number} place memory h p = rw (ne-eqb number 0 h, append-nil) p
+
+pub put-done : {t t₁ t₂ : List ℕ} {at at₁ at₂ number : ℕ} (place : ℕ) (memory : List ℕ) → number ≡ 0
+    → Put t at (answerLine number place) t₁ at₁ → Put t₁ at₁ (wordLines 0 memory) t₂ at₂ → Put t at (allLines number place memory) t₂ at₂
+put-done {number = number} place memory h p q = rw (eq-eqb number 0 h) (put-then p q)
 
 -- the lines of all words, by those of the first and the last one
 pub put-lines : {t t₁ t₂ : List ℕ} {at at₁ at₂ : ℕ} (ws : List ℕ) (i w : ℕ) → i < length ws → w ≡ getD ws i 0

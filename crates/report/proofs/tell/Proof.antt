@@ -6,17 +6,17 @@ use Rattle.report.proofs.tell.Statement.{statement}
 use Rattle.report.proofs.tell.Tie as tie
 use Rattle.numbers.proofs.refuse.Reads as refuse-reads
 
-refuse-requires : tie.Need-refuse-requires
-refuse-requires c κs = search needs
-
-returns : tie.Need-returns
-returns c = tell-refused _ _ _ (c .before .refuse .ensures) (c .if1 .taken)
-
 put-bytes-requires : tie.Need-put-bytes-requires
 put-bytes-requires c κs =
     let e = c .before in
     let a = e .before .before .before .before .args in
     omega (arith, tell-room (a .bytes .now) (a .text .now) _ (e .before .refuse .ensures) (e .if1 .left))
+
+refuse-requires : tie.Need-refuse-requires
+refuse-requires c κs = search needs
+
+returns : tie.Need-returns
+returns c = tell-refused _ _ _ (c .before .refuse .ensures) (c .if1 .taken)
 
 same-length : tie.Need-same-length
 same-length c = search needs

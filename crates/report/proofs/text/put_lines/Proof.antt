@@ -1,10 +1,19 @@
 -- `report::text::put_lines` meets its contract. Assumes nothing.
-use mathlib.Core.List.{append-nil}
-use borrow.Author.Tests.{eq-eqb, ne-eqb}
-use Rattle.report.specs.TextLaws.{put-then}
+use Rattle.report.specs.TextLaws.{put-refused, put-done}
 use borrow.Author.Needs.{needs}
 use Rattle.report.proofs.text.put_lines.Statement.{statement}
 use Rattle.report.proofs.text.put_lines.Tie as tie
+
+returns-2 : tie.Need-returns-2
+returns-2 c =
+    let w = c .before .before in
+    let e = w .before .before in
+    put-done _ _ (e .if1 .left) (e .before .before .before .put-answer .ensures .0) (w .put-words .ensures)
+
+returns : tie.Need-returns
+returns c =
+    let p = c .before .before .before in
+    put-refused _ _ (c .if1 .taken) (p .put-answer .ensures .0)
 
 put-answer-requires : tie.Need-put-answer-requires
 put-answer-requires c κs = search needs
@@ -12,20 +21,11 @@ put-answer-requires c κs = search needs
 same-length : tie.Need-same-length
 same-length c = search needs
 
-returns : tie.Need-returns
-returns c = rw (ne-eqb _ _ (c .if1 .taken), append-nil) (c .before .before .before .put-answer .ensures .0)
-
 put-words-requires : tie.Need-put-words-requires
 put-words-requires c κs = search needs
 
 same-length-2 : tie.Need-same-length-2
 same-length-2 c = search needs
-
-returns-2 : tie.Need-returns-2
-returns-2 c =
-    let w = c .before .before in
-    let e = w .before .before in
-    rw (eq-eqb _ _ (e .if1 .left)) (put-then (e .before .before .before .put-answer .ensures .0) (w .put-words .ensures))
 
 pub put-lines-spec : {M : Type 1} → statement M
 put-lines-spec =
