@@ -16,6 +16,7 @@ use Rattle.report.specs.Text.{allLines, tooLong}
 abbrev pub start : Board
 start = board fresh (replicate 32768 0) (replicate 256 0)
 
+-- the lines of what a run answers and leaves
 abbrev pub linesOf : Outcome → List ℕ
 linesOf o = allLines (o .given .number) (o .given .place) (o .after .memory)
 

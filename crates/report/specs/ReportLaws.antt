@@ -1,14 +1,14 @@
 -- Laws of a report: its parts, and that a page has room for it. Assumes nothing.
-use mathlib.Core.Path.{_≡_, refl, sym, ap, ap₂, _∙_, subst}
+use mathlib.Core.Path.{_≡_, refl, sym, ap, _∙_, subst}
 use mathlib.Core.Bool.{Bool, true, false, cond}
-use mathlib.Core.List.{List, [], _++_, append-nil}
+use mathlib.Core.List.{List}
 use mathlib.Core.Logic.{_≢_}
-use Prim.Native.Nat.{ℕ, _*_, _≤_, _<_}
+use Prim.Native.Nat.{ℕ, _≤_, _<_}
 use native.Mathlib.Omega.{arith}
 use lib.Dec.{eqb, leb}
-use lib.ListN.{length, replicate, take, drop, length-append, length-take, length-replicate}
-use lib.Seq.{take-all, take-at}
-use borrow.Author.Tests.{eqb-true, eqb-false, eq-eqb, ne-eqb, le-leb, lt-leb, leb-true}
+use lib.ListN.{length, replicate, take, drop, length-take, length-replicate}
+use lib.Seq.{take-at}
+use borrow.Author.Tests.{eqb-true, eqb-false, le-leb, lt-leb, leb-true}
 use Rattle.numbers.specs.Refuse.{refuse, leaves}
 use Rattle.numbers.specs.RefuseLaws.{refuse-zero, leaves-before}
 use Rattle.numbers.specs.Buffer.{over}

@@ -58,7 +58,7 @@ digitFrom-most least n = go (ltb n least)
     go true = omega arith
     go false = omega arith
 
-pub decimal-most : (n : ℕ) → length (decimal n) ≤ 4
+decimal-most : (n : ℕ) → length (decimal n) ≤ 4
 unfolding decimal
 decimal-most n =
     let a = digitFrom-most 1000 n in
@@ -124,7 +124,7 @@ answer-most number place =
 words-most : (ws : List ℕ) → length (wordLines 0 ws) ≤ 15 * length ws
 words-most ws = subst (λ (l : List ℕ). length (wordLines 0 l) ≤ 15 * length ws) (take-all (length ws) ws (omega arith)) (lines-most ws (length ws) (omega arith))
 
--- the words may be left away: a text with them is the longest
+-- the answer line and 15 bytes for each word
 pub allLines-most : (number place : ℕ) (memory : List ℕ) → length (allLines number place memory) ≤ 20 + 15 * length memory
 allLines-most number place memory = go (eqb number 0)
   where

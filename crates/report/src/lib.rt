@@ -52,7 +52,7 @@ fn write_text(list: &[u8], page: &mut [u8]) -> usize
     write_lines(list, page)
 }
 
-// A text, in a lent buffer. 15 where the buffer is too short for it: it then stays as it was.
+// A text, at the start of a lent buffer, or 15.
 fn tell(bytes: &[u8], text: &mut [u8]) -> Reported
     ensures { λ r. ⌜ told r (now (text .exit)) ≡ tell (now (bytes .entry)) (now (text .entry)) ⌝ }
 {
@@ -74,7 +74,7 @@ fn tell(bytes: &[u8], text: &mut [u8]) -> Reported
     }
 }
 
-// The text of a list, in a lent buffer.
+// The text of a list, in a lent buffer. 15 where the buffer is too short for it: it then stays as it was.
 pub fn report(list: &[u8], text: &mut [u8]) -> Reported
     ensures { λ r. ⌜ told r (now (text .exit)) ≡ reportCall (now (list .entry)) (now (text .entry)) ⌝ }
 {

@@ -15,10 +15,14 @@ write-text-requires : tie.Need-write-text-requires
 write-text-requires c κs = search needs
 
 array-share-prefix-page : tie.Need-array-share-prefix-page
-array-share-prefix-page c = let w = c .before in bytes-most _ _ _ _ (w .write-text .ensures) (omega (arith, w .before .before .empty-page .ensures))
+array-share-prefix-page c =
+    let w = c .before in
+    bytes-most _ _ _ _ (w .write-text .ensures) (omega (arith, w .before .before .empty-page .ensures))
 
 slice-aggregate-tell : tie.Need-slice-aggregate-tell
-slice-aggregate-tell c = let w = c .before .before in bytes-taken _ _ _ _ (w .write-text .ensures) (omega (arith, w .before .before .empty-page .ensures))
+slice-aggregate-tell c =
+    let w = c .before .before in
+    bytes-taken _ _ _ _ (w .write-text .ensures) (omega (arith, w .before .before .empty-page .ensures))
 
 tell-requires : tie.Need-tell-requires
 tell-requires c κs = search needs

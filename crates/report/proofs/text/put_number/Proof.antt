@@ -36,7 +36,8 @@ returns c =
           (put-then (p₁ .put-from .ensures .0)
           (put-then (p₂ .put-from2 .ensures .0) (put-then (p₃ .put-from3 .ensures .0) (p₄ .put-digit .ensures))))
           (b .put-byte .ensures),
-      omega (arith, p₁ .put-from .ensures .1, p₂ .put-from2 .ensures .1, p₃ .put-from3 .ensures .1, p₄ .put-digit .ensures .end, b .put-byte .ensures .end),
+      omega
+          (arith, p₁ .put-from .ensures .1, p₂ .put-from2 .ensures .1, p₃ .put-from3 .ensures .1, p₄ .put-digit .ensures .end, b .put-byte .ensures .end),
     )
 
 pub put-number-spec : {M : Type 1} → statement M
