@@ -8,7 +8,7 @@ use native.Mathlib.Nat.{mul-zero}
 use lib.Dec.{eqb}
 use lib.ListN.{length}
 use borrow.Author.Tests.{eqb-true, eqb-false}
-use Rattle.planner.specs.Fill.{Fill, touched, touchedBlocks, W, B, plan}
+use Rattle.planner.specs.Fill.{Fill, touched, W, B, plan}
 use Rattle.planner.specs.FillLaws.{Sound, across, inside-says, touched-says, words-closed, blocks-closed, plan-nothing, plan-length}
 use Rattle.planner.specs.SeriesLaws.{picked-none}
 use Rattle.planner.specs.Calls.{fillCall}

@@ -22,7 +22,7 @@ use Rattle.vram.specs.CaseLaws.{run-none, run-next, number-is, word-accepted, b
 use Rattle.vram.specs.KeptLaws.{only-memory}
 use Rattle.vram.specs.RuleLaws.{step-sized}
 use Rattle.vram.specs.CycleLaws.{word-write-at, block-write-at, allowed-given}
-use Rattle.planner.specs.Fill.{Fill, inside, touched, picked, coveredWords, touchedBlocks, wordWrite, columnsOf, blockWrite, byWords}
+use Rattle.planner.specs.Fill.{Fill, inside, touched, picked, touchedBlocks, wordWrite, columnsOf, blockWrite, byWords}
 use Rattle.planner.specs.FillLaws.{Sound, inside-says, touched-in}
 use Rattle.planner.specs.Paint.{painted, Memory}
 use Rattle.planner.specs.PaintLaws.{drawn, drawn-at, drawn-cong, drawn-none, drawn-twice, drawn-memory, mapAt-length}
