@@ -13,7 +13,7 @@ use Rattle.controller.specs.Session.{session}
 use Rattle.controller_c.specs.declared.Held.{Held}
 use Rattle.controller_c.specs.State.{lawful, taken, handed}
 use Rattle.controller_c.specs.StateLaws.{handed-taken, taken-handed, handed-lawful}
-use Rattle.controller_c.specs.Calls.{answered, heldExcluded, heldCall, answeredFetch, fetchExcluded, heldFetch}
+use Rattle.controller_c.specs.Calls.{handedOn, heldExcluded, heldCall, handedOnFetch, fetchExcluded, heldFetch}
 
 -- ---- the two ways out, by what the code has
 
@@ -27,13 +27,13 @@ module _ (h : Held) (e : lawful h ≡ false) where
   fetch-excluded = rw e
 
 module _ (h : Held) (e : lawful h ≡ true) {s : Controller} (f : s ≡ taken h) where
-  pub call-done : (c : Call) {r : Below} → r ≡ does c s → answered r ≡ heldCall c h
+  pub call-done : (c : Call) {r : Below} → r ≡ does c s → handedOn r ≡ heldCall c h
   unfolding heldCall
-  call-done c g = rw e (ap answered (g ∙ ap (does c) f))
+  call-done c g = rw e (ap handedOn (g ∙ ap (does c) f))
 
-  pub fetch-done : {r : FetchedBelow} → r ≡ fetchCall s → answeredFetch r ≡ heldFetch h
+  pub fetch-done : {r : FetchedBelow} → r ≡ fetchCall s → handedOnFetch r ≡ heldFetch h
   unfolding heldFetch
-  fetch-done g = rw e (ap answeredFetch (g ∙ ap fetchCall f))
+  fetch-done g = rw e (ap handedOnFetch (g ∙ ap fetchCall f))
 
 -- ---- a refusal hands the state back as it came
 
@@ -41,8 +41,8 @@ pub held-refused : (c : Call) (h : Held) → heldCall c h .number ≢ 0 → held
 unfolding heldCall
 held-refused c h = go (lawful h) refl
   where
-    go : (b : Bool) → lawful h ≡ b → cond b (answered (does c (taken h))) (heldExcluded h) .number ≢ 0
-        → cond b (answered (does c (taken h))) (heldExcluded h) .state ≡ h
+    go : (b : Bool) → lawful h ≡ b → cond b (handedOn (does c (taken h))) (heldExcluded h) .number ≢ 0
+        → cond b (handedOn (does c (taken h))) (heldExcluded h) .state ≡ h
     go true e n = ap handed (refused-keeps c (taken h) n) ∙ handed-taken h e
     go false e n = refl
 
@@ -50,20 +50,20 @@ pub held-fetch-refused : (h : Held) → heldFetch h .number ≢ 0 → heldFetch 
 unfolding heldFetch
 held-fetch-refused h = go (lawful h) refl
   where
-    go : (b : Bool) → lawful h ≡ b → cond b (answeredFetch (fetchCall (taken h))) (fetchExcluded h) .number ≢ 0
-        → cond b (answeredFetch (fetchCall (taken h))) (fetchExcluded h) .state ≡ h
+    go : (b : Bool) → lawful h ≡ b → cond b (handedOnFetch (fetchCall (taken h))) (fetchExcluded h) .number ≢ 0
+        → cond b (handedOnFetch (fetchCall (taken h))) (fetchExcluded h) .state ≡ h
     go true e n = ap handed (refused-keeps Fetch (taken h) n) ∙ handed-taken h e
     go false e n = refl
 
 -- ---- what holds of calls in a row holds of them in C
 
-pub held-call : (c : Call) (s : Controller) → heldCall c (handed s) ≡ answered (does c s)
+pub held-call : (c : Call) (s : Controller) → heldCall c (handed s) ≡ handedOn (does c s)
 unfolding heldCall
-held-call c s = rw (handed-lawful s) (ap (λ (t : Controller). answered (does c t)) (taken-handed s))
+held-call c s = rw (handed-lawful s) (ap (λ (t : Controller). handedOn (does c t)) (taken-handed s))
 
-pub held-fetch : (s : Controller) → heldFetch (handed s) ≡ answeredFetch (fetchCall s)
+pub held-fetch : (s : Controller) → heldFetch (handed s) ≡ handedOnFetch (fetchCall s)
 unfolding heldFetch
-held-fetch s = rw (handed-lawful s) (ap (λ (t : Controller). answeredFetch (fetchCall t)) (taken-handed s))
+held-fetch s = rw (handed-lawful s) (ap (λ (t : Controller). handedOnFetch (fetchCall t)) (taken-handed s))
 
 -- a fetch leaves what a call of it leaves
 pub held-fetch-state : (h : Held) → heldFetch h .state ≡ heldCall Fetch h .state
@@ -71,7 +71,7 @@ unfolding heldFetch heldCall
 held-fetch-state h = go (lawful h)
   where
     go : (b : Bool)
-        → cond b (answeredFetch (fetchCall (taken h))) (fetchExcluded h) .state ≡ cond b (answered (does Fetch (taken h))) (heldExcluded h) .state
+        → cond b (handedOnFetch (fetchCall (taken h))) (fetchExcluded h) .state ≡ cond b (handedOn (does Fetch (taken h))) (heldExcluded h) .state
     go true = refl
     go false = refl
 
@@ -85,5 +85,5 @@ held-session [] s = refl
 held-session (c ∷ cs) s = ap (λ r. heldSession cs (r .state)) (held-call c s) ∙ held-session cs (after c s)
 
 -- so a word fetched after some calls has the same answer, `frame-address` among others
-pub held-word : (cs : List Call) (s : Controller) → heldFetch (heldSession cs (handed s)) ≡ answeredFetch (fetchCall (session cs s))
+pub held-word : (cs : List Call) (s : Controller) → heldFetch (heldSession cs (handed s)) ≡ handedOnFetch (fetchCall (session cs s))
 held-word cs s = ap heldFetch (held-session cs s) ∙ held-fetch (session cs s)

@@ -9,22 +9,22 @@ use Rattle.controller_c.specs.declared.Controlled.{Controlled}
 use Rattle.controller_c.specs.declared.Fetched.{Fetched}
 use Rattle.controller_c.specs.State.{lawful, taken, handed}
 
-abbrev pub answered : Below → Controlled
-answered r = record { state = handed (r .state); number = r .number }
+abbrev pub handedOn : Below → Controlled
+handedOn r = record { state = handed (r .state); number = r .number }
 
 abbrev pub heldExcluded : Held → Controlled
 heldExcluded h = record { state = h; number = 1 }
 
 unfoldable pub heldCall : Call → Held → Controlled
-heldCall c h = cond (lawful h) (answered (does c (taken h))) (heldExcluded h)
+heldCall c h = cond (lawful h) (handedOn (does c (taken h))) (heldExcluded h)
 
 -- ---- a fetch
 
-abbrev pub answeredFetch : FetchedBelow → Fetched
-answeredFetch r = record { state = handed (r .state); number = r .number; bank = r .bank; row = r .row; column = r .column }
+abbrev pub handedOnFetch : FetchedBelow → Fetched
+handedOnFetch r = record { state = handed (r .state); number = r .number; bank = r .bank; row = r .row; column = r .column }
 
 abbrev pub fetchExcluded : Held → Fetched
 fetchExcluded h = record { state = h; number = 1; bank = 0; row = 0; column = 0 }
 
 unfoldable pub heldFetch : Held → Fetched
-heldFetch h = cond (lawful h) (answeredFetch (fetchCall (taken h))) (fetchExcluded h)
+heldFetch h = cond (lawful h) (handedOnFetch (fetchCall (taken h))) (fetchExcluded h)

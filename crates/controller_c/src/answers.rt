@@ -1,13 +1,13 @@
 // An answer as C has it: of the call below, or 1 where no `Controller` can be so.
 ghost use mathlib.Core.Path.{_≡_};
-ghost use Rattle.controller_c.specs.Calls.{answered, answeredFetch, heldExcluded, fetchExcluded};
+ghost use Rattle.controller_c.specs.Calls.{handedOn, handedOnFetch, heldExcluded, fetchExcluded};
 use crate::Controlled;
 use crate::Fetched;
 use crate::Held;
 use crate::state::hand;
 
 pub(crate) fn answer(done: controller::Controlled) -> Controlled
-    ensures { λ r. ⌜ r ≡ answered done ⌝ }
+    ensures { λ r. ⌜ r ≡ handedOn done ⌝ }
 {
     let state = done.state;
     Controlled {
@@ -17,7 +17,7 @@ pub(crate) fn answer(done: controller::Controlled) -> Controlled
 }
 
 pub(crate) fn answer_fetch(done: controller::Fetched) -> Fetched
-    ensures { λ r. ⌜ r ≡ answeredFetch done ⌝ }
+    ensures { λ r. ⌜ r ≡ handedOnFetch done ⌝ }
 {
     let state = done.state;
     Fetched {

@@ -10,7 +10,7 @@ use Rattle.list.specs.declared.Head.the-variants.{Waits, Wrong, Whole}
 use Rattle.list.specs.Tags.{lenOf, cycleOf}
 use Rattle.list.specs.TagLaws.{len-most}
 use Rattle.list.specs.Fields.{tag, body, whole, fieldOf, fields}
-use Rattle.list.specs.FieldLaws.{whole-length, readable-head}
+use Rattle.list.specs.FieldLaws.{whole-length, readable-head, readable-tail}
 use Rattle.list.specs.Meaning.{numberOf, readable, cyclesOf}
 use Rattle.list.specs.VerdictLaws.{number-whole, number-not, cycles-whole}
 use Rattle.list.specs.Waits.{waits}
@@ -51,8 +51,9 @@ module _ (s : List ℕ) (p : 0 < length s) (r : readable (fields s) ≡ true) wh
     pub some : 0 < size
     pub inside : size ≤ length s
     pub most : size ≤ 13
+    pub rest : readable (fields (drop size s)) ≡ true
 
-  -- the head is a whole field; its cycle comes first, then those of the bytes after it
+  -- the head is a whole field; its cycle comes first, then those of the bytes after it, which can be read too
   pub head-walks : Walks (cycleOf (tag s) (body s)) (3 + lenOf (tag s))
   head-walks =
       let w = readable-head s p r in
@@ -62,4 +63,5 @@ module _ (s : List ℕ) (p : 0 < length s) (r : readable (fields s) ≡ true) wh
         some = omega arith;
         inside = whole-length s w;
         most = omega (arith, len-most (tag s));
+        rest = readable-tail s p r;
       }

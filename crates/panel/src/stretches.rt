@@ -61,6 +61,7 @@ fn clear(out: &mut [u8], n: usize)
     }
 }
 
+// The bytes of a run, shown or blanked.
 pub(crate) fn run_bytes(
     state: Vram,
     serial: &[u16],

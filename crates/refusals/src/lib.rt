@@ -1,5 +1,6 @@
-// What refuses a cycle of each kind, by its numbers alone: document 01, "Numbers given back", 2 and 5 to 10. The lowest wins, so the
-// last test is worked out first. A single cycle and a list, which is judged from its bytes, ask here, and the rule stands once.
+// What refuses a cycle of each kind, by its numbers alone: document 01, "Numbers given back", 2 and 5 to 10. The lowest wins: a write
+// leaves by its first test that fails, the others chain by `refuse`, the last test first. A single cycle and a list, which is judged from
+// its bytes, ask here, and the rule stands once.
 ghost use mathlib.Core.Path.{_≡_};
 ghost use Rattle.refusals.specs.Refusal.{fitted, placed, writeRefusal, loadRefusal, fullRefusal, splitRefusal};
 use numbers::refuse;
@@ -24,7 +25,7 @@ pub fn placed(rows: usize, row: u32, column: u32, strobes: u32) -> u32
     refuse((row as usize) < rows, numbers::ROW_NOT_FITTED, n)
 }
 
-// A write, of which every fill is made: each test leaves by its own number, so that one that is not refused works out none.
+// 5 to 8, of a write. Every fill is made of writes: one that is not refused works out no number.
 pub fn write_refusal(rows: usize, row: u16, column: u16, masking: u8, mask: u16, strobes: u8) -> u32
     ensures { λ r. ⌜ r ≡ writeRefusal rows row column masking mask strobes ⌝ }
 {
@@ -48,6 +49,7 @@ pub fn write_refusal(rows: usize, row: u16, column: u16, masking: u8, mask: u16,
     }
 }
 
+// 7, of a load.
 pub fn load_refusal(strobes: u8) -> u32
     ensures { λ r. ⌜ r ≡ loadRefusal strobes ⌝ }
 {
@@ -55,6 +57,7 @@ pub fn load_refusal(strobes: u8) -> u32
     refuse(some, numbers::STROBES_OTHER, numbers::DONE)
 }
 
+// 5 and 9, of a full transfer.
 pub fn full_refusal(rows: usize, row: u16, half: u8) -> u32
     ensures { λ r. ⌜ r ≡ fullRefusal rows row half ⌝ }
 {
@@ -62,6 +65,7 @@ pub fn full_refusal(rows: usize, row: u16, half: u8) -> u32
     refuse((row as usize) < rows, numbers::ROW_NOT_FITTED, n)
 }
 
+// 5, 9 and 10, of a split transfer.
 pub fn split_refusal(rows: usize, loaded: bool, row: u16, half: u8, tap: u8) -> u32
     ensures { λ r. ⌜ r ≡ splitRefusal rows loaded row half tap ⌝ }
 {

@@ -21,8 +21,8 @@ use Rattle.list.specs.Meaning.{Outcome, outcome, cyclesOf, verdictOf, runCall}
 use Rattle.list.specs.CallLaws.{call-given, call-runs, call-refuses}
 use Rattle.list.specs.RangeLaws.{call-most}
 use Rattle.report.specs.declared.Reported.{Reported}
-use Rattle.report.specs.Text.{allLines, tooLong}
-use Rattle.report.specs.TextLaws.{Put, put-size, put-over, allLines-most}
+use Rattle.report.specs.Text.{allLines, tooLong, Put}
+use Rattle.report.specs.TextLaws.{put-size, put-over, allLines-most}
 use Rattle.report.specs.Report.{start, linesOf, textOf, Told, told, tell, reportCall}
 
 -- ---- a list that is not too long

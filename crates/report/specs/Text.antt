@@ -1,8 +1,11 @@
 -- The text of a report, as bytes: document 01, "The program `play`". Assumes nothing.
 use Prim.Native.Nat.{ℕ, suc, _+_, _/_, _%_}
+use mathlib.Core.Path.{_≡_}
 use mathlib.Core.Bool.{cond}
 use mathlib.Core.List.{List, [], _∷_, _++_}
 use lib.Dec.{eqb, ltb}
+use lib.ListN.{length}
+use lib.Seq.{sets}
 
 -- ---- numbers
 
@@ -37,10 +40,14 @@ answerLine number place =
 unfoldable pub wordLine : ℕ → ℕ → List ℕ
 wordLine i w = numberThen 32 (i / 512) ++ (numberThen 32 (i % 512) ++ (hex w ++ (10 ∷ [])))
 
+-- the line of a word, or nothing where it is 0
+abbrev pub lineOf : ℕ → ℕ → List ℕ
+lineOf i w = cond (eqb w 0) [] (wordLine i w)
+
 -- a line for each word not 0, by row and then column; the first word given is word i
 unfoldable pub wordLines : ℕ → List ℕ → List ℕ
 wordLines i [] = []
-wordLines i (w ∷ ws) = cond (eqb w 0) [] (wordLine i w) ++ wordLines (suc i) ws
+wordLines i (w ∷ ws) = lineOf i w ++ wordLines (suc i) ws
 
 -- the answer line, and after it the words not 0; after a refusal only the first line
 abbrev pub allLines : ℕ → ℕ → List ℕ → List ℕ
@@ -49,3 +56,9 @@ allLines number place memory = answerLine number place ++ cond (eqb number 0) (w
 -- `too long`
 abbrev pub tooLong : List ℕ
 tooLong = 116 ∷ 111 ∷ 111 ∷ 32 ∷ 108 ∷ 111 ∷ 110 ∷ 103 ∷ 10 ∷ []
+
+-- ---- bytes written from a place of a buffer on, and the place after them
+
+pub record Put (t : List ℕ) (at : ℕ) (bytes t′ : List ℕ) (at′ : ℕ) : Type 0 where
+  pub text : t′ ≡ sets t at bytes
+  pub end : at′ ≡ at + length bytes

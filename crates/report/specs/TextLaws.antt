@@ -13,13 +13,9 @@ use lib.ListN.{length, getD, set, take, length-append, length-take}
 use lib.Seq.{sets, length-sets, take-suc, take-all}
 use Rattle.numbers.specs.Buffer.{over}
 use Rattle.numbers.specs.BufferLaws.{sets-append, over-sets}
-use Rattle.report.specs.Text.{digit, digitFrom, decimal, hex, answerLine, wordLine, wordLines, allLines}
+use Rattle.report.specs.Text.{digit, digitFrom, decimal, hex, answerLine, wordLine, wordLines, allLines, lineOf, Put}
 
--- ---- bytes written from a place of a buffer on, and the place after them
-
-pub record Put (t : List ℕ) (at : ℕ) (bytes t′ : List ℕ) (at′ : ℕ) : Type 0 where
-  pub text : t′ ≡ sets t at bytes
-  pub end : at′ ≡ at + length bytes
+-- ---- bytes written from a place of a buffer on
 
 length-take-is : (n : ℕ) (l : List ℕ) → n ≤ length l → length (take n l) ≡ n
 length-take-is n l h = simp length-take (omega arith)
@@ -75,9 +71,6 @@ line-most i w =
     simp length-append (omega arith)
 
 -- ---- lines, one word more
-
-abbrev pub lineOf : ℕ → ℕ → List ℕ
-lineOf i w = cond (eqb w 0) [] (wordLine i w)
 
 pub lineOf-most : (i w : ℕ) → length (lineOf i w) ≤ 15
 lineOf-most i w = go (eqb w 0)

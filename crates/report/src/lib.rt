@@ -4,8 +4,8 @@ ghost use mathlib.Core.Path.{_≡_};
 ghost use Prim.Native.Nat.{_≤_};
 ghost use lib.ListN.{length};
 ghost use Rattle.list.specs.Meaning.{runCall};
+ghost use Rattle.report.specs.Text.{Put};
 ghost use Rattle.report.specs.Report.{start, linesOf, textOf, told, tell, reportCall};
-ghost use Rattle.report.specs.TextLaws.{Put};
 
 mod text;
 

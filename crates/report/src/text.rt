@@ -3,8 +3,7 @@ ghost use mathlib.Core.Path.{_≡_};
 ghost use mathlib.Core.List.{[], _∷_};
 ghost use Prim.Native.Nat.{_+_, _*_, _<_, _≤_};
 ghost use lib.ListN.{length};
-ghost use Rattle.report.specs.Text.{digit, digitFrom, numberThen, hex, answerLine, wordLine, wordLines, allLines};
-ghost use Rattle.report.specs.TextLaws.{Put, lineOf};
+ghost use Rattle.report.specs.Text.{digit, digitFrom, numberThen, hex, answerLine, wordLine, wordLines, allLines, Put, lineOf};
 
 // A digit, 0 to 9 and then A to F.
 fn digit(d: u32) -> u8

@@ -38,8 +38,8 @@ module _ (n k : ℕ) (s made : Vram) (r copied : List ℕ) (e : n ≡ k) where
 -- ---- a whole cycle
 
 -- what a cycle does not touch is left either way
-pub kept : {A : Type 0} (n : ℕ) (x : A) → x ≡ leaves n x x
-kept n x = go (eqb n 0)
+pub untouched : {A : Type 0} (n : ℕ) (x : A) → x ≡ leaves n x x
+untouched n x = go (eqb n 0)
   where
     go : (t : Bool) → x ≡ cond t x x
     go true = refl
@@ -67,4 +67,4 @@ module _ (c : Cycle) (s : Vram) (m r : List ℕ) where
   pub did-alone : (n : ℕ) {s″ : Vram} → n ≡ firstOf (givenOf (board s m r)) (refusal (rowsOf (board s m r)) (s .loaded) c)
       → s″ ≡ leaves n s (effect c (board s m r) .state) → effect c (board s m r) .memory ≡ m → effect c (board s m r) .serial ≡ r
       → outcome (answered n s″) m r ≡ cycleCall c (board s m r)
-  did-alone n e f k l = did n e f (kept n m ∙ ap (leaves n m) (sym k)) (kept n r ∙ ap (leaves n r) (sym l))
+  did-alone n e f k l = did n e f (untouched n m ∙ ap (leaves n m) (sym k)) (untouched n r ∙ ap (leaves n r) (sym l))

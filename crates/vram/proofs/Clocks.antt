@@ -13,7 +13,7 @@ use Rattle.vram.specs.declared.Word.{Word}
 use Rattle.vram.specs.State.{ruled}
 use Rattle.vram.specs.Serial.{through, clock, clocks}
 use Rattle.vram.specs.SerialLaws.{clock-is}
-use Rattle.vram.specs.Calls.{clockRefusal, clockCall, moved, clocksRefusal, clocksCall}
+use Rattle.vram.specs.Calls.{clockRefusal, clockCall, movedTo, clocksRefusal, clocksCall}
 
 abbrev pub worded : ℕ → ℕ → Word
 worded n w = record { number = n; word = w }
@@ -36,10 +36,10 @@ module _ (s : Vram) (r : List ℕ) (n : ℕ) (e : n ≡ clockRefusal s (length r
   clock-done z f = rw (← e, z, f, clock-is s)
 
 module _ (s : Vram) (k n : ℕ) (e : n ≡ clocksRefusal s k) where
-  pub clocks-refused : n ≢ 0 → moved n s 0 ≡ clocksCall s k
+  pub clocks-refused : n ≢ 0 → movedTo n s 0 ≡ clocksCall s k
   unfolding clocksCall
   clocks-refused h = rw (← e, leaves-before n s (clocks k s) h, leaves-before n 0 (through (clocks k s)) h)
 
-  pub clocks-done : {s′ : Vram} {t : ℕ} → n ≡ 0 → s′ ≡ clocks k s → t ≡ through s′ → moved 0 s′ t ≡ clocksCall s k
+  pub clocks-done : {s′ : Vram} {t : ℕ} → n ≡ 0 → s′ ≡ clocks k s → t ≡ through s′ → movedTo 0 s′ t ≡ clocksCall s k
   unfolding clocksCall
   clocks-done z f g = rw (← e, z, g, f)

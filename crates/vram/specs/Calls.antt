@@ -66,8 +66,8 @@ clockCall s r =
 unfoldable pub clocksRefusal : Vram → ℕ → ℕ
 clocksRefusal s k = refuse (ruled s) 1 (refuse (eqb k 0 || s .loaded) 10 (refuse (leb k 512) 14 0))
 
-abbrev pub moved : ℕ → Vram → ℕ → Moved
-moved n s through = record { state = s; through = through; number = n }
+abbrev pub movedTo : ℕ → Vram → ℕ → Moved
+movedTo n s through = record { state = s; through = through; number = n }
 
 unfoldable pub clocksCall : Vram → ℕ → Moved
-clocksCall s k = let n = clocksRefusal s k in moved n (leaves n s (clocks k s)) (leaves n 0 (through (clocks k s)))
+clocksCall s k = let n = clocksRefusal s k in movedTo n (leaves n s (clocks k s)) (leaves n 0 (through (clocks k s)))

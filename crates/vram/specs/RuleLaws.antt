@@ -25,7 +25,7 @@ use Rattle.vram.specs.Writes.{writes, written, written-length, rowOf, wr
 use Rattle.vram.specs.Sets.{sets, effect-is, effect-writes}
 use Rattle.vram.specs.KeptLaws.{kept}
 use Rattle.vram.specs.AimLaws.{aimed}
-use Rattle.vram.specs.Serial.{at, after, moved, clockIn, clocksIn, lengthOf, clocks}
+use Rattle.vram.specs.Serial.{at, after, clockedOn, clockIn, clocksIn, lengthOf, clocks}
 use Rattle.vram.specs.SerialLaws.{Partition, partition}
 
 -- ---- lengths
@@ -103,12 +103,12 @@ module _ (n : ℕ) (P : Partition n) where
   unfolding clockIn ruled
   clock-ruled s p h = go (s .waiting) h
     where
-      go : (w : Waiting) → waitingOk w (s .loaded) (s .pointer) ≡ true → waitingOk (moved n w s .waiting) (moved n w s .loaded) (moved n w s .pointer) ≡ true
+      go : (w : Waiting) → waitingOk w (s .loaded) (s .pointer) ≡ true → waitingOk (clockedOn n w s .waiting) (clockedOn n w s .loaded) (clockedOn n w s .pointer) ≡ true
       go None h = refl
       go (Tap tap) h = last (eqb (s .pointer % n) (n - 1)) refl
         where
           last : (u : Bool) → eqb (s .pointer % n) (n - 1) ≡ u
-              → waitingOk (moved n (Tap tap) s .waiting) (moved n (Tap tap) s .loaded) (moved n (Tap tap) s .pointer) ≡ true
+              → waitingOk (clockedOn n (Tap tap) s .waiting) (clockedOn n (Tap tap) s .loaded) (clockedOn n (Tap tap) s .pointer) ≡ true
           last true q = rw q
           last false q =
               let l = P .within (s .pointer) in
@@ -126,9 +126,9 @@ none-or-tap : (t : ℕ) → None ≡ Tap t → ⊥
 none-or-tap t e = let z : _≡_ {A = ℕ} 0 1 = cc in omega arith
 
 module _ (n : ℕ) where
-  moved-places : (s : Vram) → Places s → (w : Waiting) → s .waiting ≡ w → Places (moved n w s)
-  moved-places s p None e = record { place = omega arith; tap = λ t f. absurd (none-or-tap t f) }
-  moved-places s p (Tap tap) e = go (eqb (s .pointer % n) (n - 1))
+  clockedOn-places : (s : Vram) → Places s → (w : Waiting) → s .waiting ≡ w → Places (clockedOn n w s)
+  clockedOn-places s p None e = record { place = omega arith; tap = λ t f. absurd (none-or-tap t f) }
+  clockedOn-places s p (Tap tap) e = go (eqb (s .pointer % n) (n - 1))
     where
       go : (u : Bool) → Places (cond u (at s tap None) (at s (after (s .pointer) 1) (Tap tap)))
       go true = record { place = p .tap tap e; tap = λ t f. absurd (none-or-tap t f) }
@@ -136,7 +136,7 @@ module _ (n : ℕ) where
 
   pub clock-places : (s : Vram) → Places s → Places (clockIn n s)
   unfolding clockIn
-  clock-places s p = moved-places s p (s .waiting) refl
+  clock-places s p = clockedOn-places s p (s .waiting) refl
 
 clocksIn-ruled : (n : ℕ) → Partition n → (k : ℕ) (s : Vram) → Places s → ruled s ≡ true → ruled (clocksIn n k s) ≡ true
 unfolding clocksIn

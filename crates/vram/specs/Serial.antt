@@ -22,12 +22,12 @@ abbrev pub throughIn : ℕ → ℕ → ℕ
 throughIn n place = n - place % n
 
 -- at a partition's last place to the waiting tap, which is used up; otherwise to the next place
-abbrev pub moved : ℕ → Waiting → Vram → Vram
-moved n None s = at s (after (s .pointer) 1) None
-moved n (Tap tap) s = cond (eqb (s .pointer % n) (n - 1)) (at s tap None) (at s (after (s .pointer) 1) (Tap tap))
+abbrev pub clockedOn : ℕ → Waiting → Vram → Vram
+clockedOn n None s = at s (after (s .pointer) 1) None
+clockedOn n (Tap tap) s = cond (eqb (s .pointer % n) (n - 1)) (at s tap None) (at s (after (s .pointer) 1) (Tap tap))
 
 unfoldable pub clockIn : ℕ → Vram → Vram
-clockIn n s = moved n (s .waiting) s
+clockIn n s = clockedOn n (s .waiting) s
 
 -- the state after k clocks, and the words that they answer
 unfoldable pub clocksIn : ℕ → ℕ → Vram → Vram

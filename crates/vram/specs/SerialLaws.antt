@@ -13,7 +13,7 @@ use Rattle.vram.specs.declared.Vram.{Vram}
 use Rattle.vram.specs.declared.Waiting.{Waiting}
 use Rattle.vram.specs.declared.Waiting.the-variants.{None, Tap}
 use Rattle.vram.specs.State.{withSerial}
-use Rattle.vram.specs.Serial.{at, after, throughIn, moved, clockIn, clocksIn, clockedWordsIn, lengthOf, through, clock, clocks, clockedWords}
+use Rattle.vram.specs.Serial.{at, after, throughIn, clockedOn, clockIn, clocksIn, clockedWordsIn, lengthOf, through, clock, clocks, clockedWords}
 
 -- ---- a run of clocks is a run and then a run
 
@@ -78,7 +78,7 @@ module _ (n : ℕ) (P : Partition n) where
       e : (s .pointer + 1) % 256 ≡ s .pointer + 1
       e = mod-eq-of-lt (P .next (s .pointer) p h .0)
 
-      go : (w : Waiting) → moved n w s ≡ at s (s .pointer + 1) w
+      go : (w : Waiting) → clockedOn n w s ≡ at s (s .pointer + 1) w
       go None = rw e
       go (Tap tap) = rw (ne-eqb (s .pointer % n) (n - 1) (λ z. omega arith), e)
 
@@ -154,9 +154,9 @@ module _ (n : ℕ) (P : Partition n) (tap : ℕ) (t : tap < 256) where
 -- ---- a clock moves the pointer and uses up the tap; every other register stays
 
 module _ (n : ℕ) where
-  moved-keeps : (s : Vram) (w : Waiting) → moved n w s ≡ at s (moved n w s .pointer) (moved n w s .waiting)
-  moved-keeps s None = refl
-  moved-keeps s (Tap tap) = go (eqb (s .pointer % n) (n - 1))
+  clockedOn-keeps : (s : Vram) (w : Waiting) → clockedOn n w s ≡ at s (clockedOn n w s .pointer) (clockedOn n w s .waiting)
+  clockedOn-keeps s None = refl
+  clockedOn-keeps s (Tap tap) = go (eqb (s .pointer % n) (n - 1))
     where
       go : (u : Bool) → cond u (at s tap None) (at s (after (s .pointer) 1) (Tap tap))
           ≡ at s (cond u (at s tap None) (at s (after (s .pointer) 1) (Tap tap)) .pointer) (cond u (at s tap None) (at s (after (s .pointer) 1) (Tap tap)) .waiting)
@@ -168,7 +168,7 @@ module _ (n : ℕ) where
   clocksIn-keeps zero s = refl
   clocksIn-keeps (suc k) s =
       let t = clocksIn n k (clockIn n s) in
-      clocksIn-keeps k (clockIn n s) ∙ ap (λ (x : Vram). at x (t .pointer) (t .waiting)) (moved-keeps s (s .waiting))
+      clocksIn-keeps k (clockIn n s) ∙ ap (λ (x : Vram). at x (t .pointer) (t .waiting)) (clockedOn-keeps s (s .waiting))
 
 -- ---- the same by the length of the state's own partitions
 

@@ -1,4 +1,4 @@
-// A state with one thing changed; every cycle changes a state by these.
+// A state with one thing changed; every cycle changes a state by these. The state's rule.
 ghost use mathlib.Core.Path.{_≡_};
 ghost use Rattle.vram.specs.State.{withColour, withMask, withSerial, ruled};
 use crate::Vram;

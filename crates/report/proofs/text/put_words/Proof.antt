@@ -7,8 +7,8 @@ use native.Mathlib.Omega.{arith}
 use borrow.Author.Needs.{needs}
 use lib.ListN.{length, take}
 use lib.Seq.{take-all}
-use Rattle.report.specs.Text.{wordLines}
-use Rattle.report.specs.TextLaws.{Put, put-nothing, put-size, lines-most, put-lines}
+use Rattle.report.specs.Text.{wordLines, Put}
+use Rattle.report.specs.TextLaws.{put-nothing, put-size, lines-most, put-lines}
 use Rattle.report.proofs.text.put_words.Statement.{statement}
 use Rattle.report.proofs.text.put_words.Tie as tie
 

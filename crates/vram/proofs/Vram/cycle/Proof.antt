@@ -4,7 +4,7 @@ use Rattle.numbers.specs.Refuse.{firstOf}
 use Rattle.vram.specs.Board.{effect}
 use Rattle.refusals.specs.Refusal.{fullRefusal, splitRefusal}
 use Rattle.vram.specs.Refusal.{given, refusal}
-use Rattle.vram.proofs.Arms.{kept, did, did-alone}
+use Rattle.vram.proofs.Arms.{untouched, did, did-alone}
 use borrow.Author.Needs.{needs}
 use Rattle.vram.proofs.Vram.cycle.Statement.{statement}
 use Rattle.vram.proofs.Vram.cycle.Tie as tie
@@ -60,7 +60,7 @@ returns c =
     let w = c .before .before in
     let k = w .before .before .before in
     rw (k .cycle .given .1)
-    (did _ _ _ _ _ (w .word-write .ensures .0) (kept (w .word-write .result) _) (w .word-write .ensures .1) (kept (w .word-write .result) _))
+    (did _ _ _ _ _ (w .word-write .ensures .0) (untouched (w .word-write .result) _) (w .word-write .ensures .1) (untouched (w .word-write .result) _))
 
 same-length-2 : tie.Need-same-length-2
 same-length-2 c = search needs
@@ -71,7 +71,7 @@ returns-2 c =
     let w = c .before .before in
     let k = w .before .before .before in
     rw (k .cycle2 .given .1)
-    (did _ _ _ _ _ (w .block-write .ensures .0) (kept (w .block-write .result) _) (w .block-write .ensures .1) (kept (w .block-write .result) _))
+    (did _ _ _ _ _ (w .block-write .ensures .0) (untouched (w .block-write .result) _) (w .block-write .ensures .1) (untouched (w .block-write .result) _))
 
 returns-3 : tie.Need-returns-3
 unfolding effect refusal
@@ -105,7 +105,7 @@ returns-6 c =
     let t = c .before .before in
     let k = t .before .before .before .before in
     rw (k .cycle5 .given .1, t .full-transfer .ensures .answer)
-    (did _ _ _ _ _ refl refl (kept (firstOf (given _ _ _) (fullRefusal _ _ _)) _) (t .full-transfer .ensures .serial))
+    (did _ _ _ _ _ refl refl (untouched (firstOf (given _ _ _) (fullRefusal _ _ _)) _) (t .full-transfer .ensures .serial))
 
 same-length-5 : tie.Need-same-length-5
 same-length-5 c = search needs
@@ -119,7 +119,7 @@ returns-7 c =
     let t = c .before .before in
     let k = t .before .before .before .before in
     rw (k .cycle6 .given .1, t .split-transfer .ensures .answer)
-    (did _ _ _ _ _ refl refl (kept (firstOf (given _ _ _) (splitRefusal _ _ _ _ _)) _) (t .split-transfer .ensures .serial))
+    (did _ _ _ _ _ refl refl (untouched (firstOf (given _ _ _) (splitRefusal _ _ _ _ _)) _) (t .split-transfer .ensures .serial))
 
 pub cycle-spec : {M : Type 1} → statement M
 cycle-spec =
