@@ -1,6 +1,6 @@
 /* The public header with the calls that are measured under another name: compiled with AS=plain_o2 a file that says linkshoar_list_run
- * defines, or calls, plain_o2_list_run. So the header itself declares what the archive is compared with, and whoever calls, the test
- * program too, is written once. Without AS the names are the archive's. */
+ * defines, or calls, plain_o2_list_run. So the header itself declares what the library is compared with, and whoever calls, the test
+ * program too, is written once. Without AS the names are the library's. */
 #ifndef AS_H
 #define AS_H
 

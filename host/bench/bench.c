@@ -1,4 +1,4 @@
-/* The archive side by side with plain C and with tuned C, each with -O2 and with -O3.
+/* The library side by side with plain C and with tuned C, each with -O2 and with -O3.
  *   bench                        nanoseconds for each unit of work, each the least of several rounds
  *   bench works                  the names of the works, how often each is to be run when instructions are counted, and the units of a run
  *   bench which work times       runs a work so often and does nothing else: what is counted */
@@ -18,7 +18,7 @@ static const work *const works[WHICH] = {linkshoar_works, plain_o2_works, plain_
 uint16_t memory[WORDS], serial[256];
 uint8_t masked_blocks[13 * FIELDS], plain_blocks[13 * FIELDS], masked_words[13 * FIELDS], plain_words[13 * FIELDS], colours[6 * FIELDS];
 uint8_t screen[LINKSHOAR_LIST_BYTES], plan[LINKSHOAR_LIST_BYTES], table[768];
-_Alignas(64) uint8_t out[1536]; /* the C library clears by the place */
+_Alignas(64) uint8_t out[1536]; /* aligned: how the C library clears depends on where */
 volatile uint32_t sink;
 
 /* ---- what is worked on */
@@ -76,7 +76,7 @@ static double least(const work *w)
 
 static void measure(void)
 {
-    printf("%-34s   archive plain -O2 plain -O3 tuned -O2 tuned -O3   by plain  by tuned\n", "nanoseconds");
+    printf("%-34s   library plain -O2 plain -O3 tuned -O2 tuned -O3   by plain  by tuned\n", "nanoseconds");
     for (int w = 0; w < WORKS; w++) {
         double ns[WHICH];
         printf("%-34s", works[0][w].name);

@@ -1,7 +1,7 @@
 # Prints, as a Markdown table, the x86-64 instructions executed for each unit of work, the caller's included, and how many times plain C's
-# and tuned C's (the better of -O2 and -O3) the archive's are. A work is run so often and twice as often, and the difference counts, so
-# that what comes before and after cancels. The counter is a plugin of the user-mode emulator, which gives the same on every machine, or on
-# x86-64 the processor's own, or valgrind. Where there is none this says so and ends well.
+# and tuned C's (the better of -O2 and -O3) the library's are. A work is run so often and twice as often, and the difference counts, so
+# that what comes before and after cancels. The counter is a plugin of the user-mode emulator, which gives the same on every machine for the
+# same program, or on x86-64 the processor's own, or valgrind. Where there is none this says so and ends well.
 #   count.sh program folder        CC: the compiler of program; EMULATOR: the emulator that takes plugins; HOSTCC: the compiler for the
 #                                  machine that the emulator runs on
 program=$1
@@ -44,7 +44,7 @@ if [ -z "$counter" ]; then
     exit 0
 fi
 
-echo "| instructions for one | archive | plain C -O2 | plain C -O3 | tuned C -O2 | tuned C -O3 | by plain | by tuned |"
+echo "| instructions for one | library | plain C -O2 | plain C -O3 | tuned C -O2 | tuned C -O3 | by plain | by tuned |"
 echo "|---|---|---|---|---|---|---|---|"
 "$program" works > "$folder/works" 2> /dev/null || "$EMULATOR" "$program" works > "$folder/works"
 work=0
@@ -70,4 +70,4 @@ by_processor) by="the processor" ;;
 by_valgrind) by="valgrind" ;;
 esac
 echo
-echo "Counted by $by; C compiled by gcc $($CC -dumpfullversion)."
+echo "Counted by $by; C compiled by $($CC --version | head -n 1)."

@@ -1,4 +1,4 @@
-/* Document 01 in plain C, as one would write it: what the archive is compared with. It is built twice, with -O2 and with -O3. */
+/* Document 01 in plain C, as one would write it: what the library is compared with. It is built twice, with -O2 and with -O3. */
 #include "as.h"
 
 #include <string.h>
@@ -59,7 +59,7 @@ linkshoar_ran linkshoar_list_run(linkshoar_vram state, uint16_t *memory, size_t 
         r.number = 2;
     else if (serial_words != 256)
         r.number = 3;
-    if (r.number)
+    if (r.number || !length)
         return r;
     int loaded = state.loaded;
     for (size_t at = 0; at < length; at += 3u + body_bytes[list[at]]) {

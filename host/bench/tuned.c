@@ -1,4 +1,4 @@
-/* Document 01 in C that is written for speed: the rival that the archive is measured against beside plain.c. A field is judged once, before
+/* Document 01 in C that is written for speed: the rival that the library is measured against beside plain.c. A field is judged once, before
  * anything runs, and its body is read by whole loads; a block's four words are one number, and so are a palette's registers. It is for a
  * processor that loads and stores at any address, lowest byte first. */
 #include "as.h"
@@ -150,9 +150,9 @@ linkshoar_ran linkshoar_list_run(linkshoar_vram state, uint16_t *memory, size_t 
         r.number = 2;
     else if (serial_words != 256)
         r.number = 3;
-    else
+    else if (length)
         r.number = check(list, length, (uint32_t)(words / 512), state.loaded, &r.place);
-    if (r.number)
+    if (r.number || !length)
         return r;
     linkshoar_vram s = state;
     uint64_t colours = s.colour * EACH; /* follows the colour register */

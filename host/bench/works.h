@@ -1,4 +1,4 @@
-/* What is measured: units of work, the same for the archive and for each C that it is compared with. works.c is compiled once for each. */
+/* What is measured: units of work, the same for the library and for each C that it is compared with. works.c is compiled once for each. */
 #ifndef WORKS_H
 #define WORKS_H
 

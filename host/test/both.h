@@ -1,4 +1,4 @@
-/* One call by the archive and one by the second implementation, on what can be lent (compare.h), of the lengths given; a slice of length 0
+/* One call by the library and one by the second implementation, on what can be lent (compare.h), of the lengths given; a slice of length 0
  * is null. Every member of the answers is compared, and every word and byte lent, with what lies before and past it. */
 #ifndef BOTH_H
 #define BOTH_H

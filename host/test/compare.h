@@ -14,7 +14,7 @@ uint32_t below(uint32_t n);
 int chance(uint32_t n); /* one in n */
 uint32_t about(uint32_t n); /* mostly below n, and else at its edge or past a narrower width */
 
-/* What can be lent, _a to the archive and _b to the second implementation. The two are the same before each call and must be the same after
+/* What can be lent, _a to the library and _b to the second implementation. The two are the same before each call and must be the same after
  * it, also before and past the part that is lent. */
 enum { MOST_WORDS = 513 * 512, MOST_SERIAL = 300, MOST_TABLE = 800, AROUND = 512 };
 extern uint16_t *const memory_a, *const memory_b, *const serial_a, *const serial_b;

@@ -69,7 +69,7 @@ static linkshoar_controller fetched(linkshoar_fetched a, linkshoar_fetched b)
     return b.state;
 }
 
-/* One call of the archive and one of the second implementation: the state afterwards. */
+/* One call of the library and one of the second implementation: the state afterwards. */
 #define BOTH(call, ...) controlled("linkshoar_controller_" #call, linkshoar_controller_##call(__VA_ARGS__), model_controller_##call(__VA_ARGS__))
 
 static linkshoar_controller some_call(linkshoar_controller s)
@@ -101,7 +101,7 @@ void try_controller(void)
         s = some_call(s);
 }
 
-/* A frame from the archive alone: word k of line l has the address Top of Frame + l * (words to a line + Offset) + k, wrapped at 18 bits.
+/* A frame from the library alone: word k of line l has the address Top of Frame + l * (words to a line + Offset) + k, wrapped at 18 bits.
  * Video is on at the end. */
 static linkshoar_controller frame(linkshoar_controller s, uint32_t top, uint32_t offset)
 {

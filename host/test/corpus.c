@@ -1,4 +1,4 @@
-/* Runs each list of the corpus on 64 rows and a fresh state, by the archive and by the second implementation, and compares all that they
+/* Runs each list of the corpus on 64 rows and a fresh state, by the library and by the second implementation, and compares all that they
  * answer and leave. A file is named NAME-number-place.list after what document 01 asks for it. */
 #include "compare.h"
 #include "model.h"
@@ -34,7 +34,7 @@ static int try_file(const char *path)
     linkshoar_ran a = linkshoar_list_run(linkshoar_vram_fresh(), memory_a, WORDS, serial_a, 256, list, bytes);
     linkshoar_ran b = model_list_run(model_vram_fresh(), memory_b, WORDS, serial_b, 256, list, bytes);
     if (a.number != number || a.place != place || b.number != number || b.place != place || !vram_same(a.state, b.state)) {
-        printf("DIFFERENCE: %s: %u at %u wanted, the archive %u at %u, the second implementation %u at %u\n", path, number, place, a.number,
+        printf("DIFFERENCE: %s: %u at %u wanted, the library %u at %u, the second implementation %u at %u\n", path, number, place, a.number,
                (unsigned)a.place, b.number, (unsigned)b.place);
         return 1;
     }

@@ -21,6 +21,8 @@ rm block*
 
 export PKG_CONFIG_PATH=$prefix/lib/pkgconfig
 # where there is no pkg-config, sed and the shell expand the file's words
+words="pkg-config"
+command -v pkg-config > /dev/null || words="the file for pkg-config, read by sed"
 command -v pkg-config > /dev/null || pkg-config() {
     eval "$(sed -n '/^[a-z]*=/p' "$PKG_CONFIG_PATH/linkshoar.pc")"
     eval echo $(sed -n 's/^Cflags: //p; s/^Libs: //p' "$PKG_CONFIG_PATH/linkshoar.pc")
@@ -34,4 +36,4 @@ eval "$line"
 LD_LIBRARY_PATH=$prefix/lib $RUN $LOADER ./show | diff said -
 cc show.c -I"$prefix/include" "$prefix/lib/liblinkshoar.a" -o archived
 $RUN $LOADER ./archived | diff said -
-echo "README's program prints what README says, with the installed shared library and with the installed archive"
+echo "README's program, compiled by the words of $words, prints what README says, with the installed shared library and the installed archive"

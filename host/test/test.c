@@ -1,4 +1,4 @@
-/* Compares the archive with the second implementation on random calls, valid and damaged: every member of every answer, and every word and
+/* Compares the library with the second implementation on random calls, valid and damaged: every member of every answer, and every word and
  * byte that is lent, with what lies around it.
  *   test [calls] [seed] [seconds]      a difference is printed and ends the run with 1 */
 #include "both.h"
