@@ -28,8 +28,9 @@ impl Vram {
     fn through(self) -> u32
         ensures { λ r. ⌜ r ≡ through self ⌝ }
     {
+        let pointer = self.pointer;
         let length = self.length();
-        (length - self.pointer % length) as u32
+        (length - pointer % length) as u32
     }
 
     // The state after some clocks: within the partition to a later place; past its end from the waiting tap on, which is used up.

@@ -11,13 +11,13 @@ length-requires : tie.Need-length-requires
 length-requires c κs = search needs
 
 returns : tie.Need-returns
-returns c = ap (λ (n : ℕ). throughIn n (c .before .before .args .self .pointer)) (c .before .length .ensures .0)
+returns c = ap (λ (n : ℕ). throughIn n (c .before .args .self .pointer)) (c .length .ensures .0)
 
 rem-result : tie.Need-rem-result
 rem-result c = search needs
 
 sub-result : tie.Need-sub-result
-sub-result c = le-of-lt (mod-lt (c .before .before .args .self .pointer) (c .before .length .ensures .1))
+sub-result c = le-of-lt (mod-lt (c .before .args .self .pointer) (c .length .ensures .1))
 
 cast-result : tie.Need-cast-result
 cast-result c = search needs
