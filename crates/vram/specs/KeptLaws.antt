@@ -5,7 +5,7 @@ use mathlib.Core.List.{List}
 use mathlib.Core.Logic.{_≢_}
 use Prim.Native.Nat.{ℕ, _+_, _*_, _/_, _≤_, _<_}
 use native.Mathlib.Omega.{arith}
-use lib.Dec.{eqb, ltb}
+use lib.Dec.{eqb, ltb, lit≤}
 use borrow.Author.Tests.{ne-eqb, ltb-true, ltb-false}
 use Rattle.refusals.specs.RefusalLaws.{full-zero, split-zero, transfer-within}
 use Rattle.vram.specs.declared.Vram.{Vram}
@@ -65,32 +65,26 @@ other-half p t h = ne-eqb _ _ (go (ltb p 128) refl)
     go true e q = let k : p < 128 = ltb-true p 128 e in omega arith
     go false e q = let k : 128 ≤ p = ltb-false p 128 e in omega arith
 
+-- a write sets no register and copies nothing
+draws : (c : Cycle) (s : Vram) → tagOf c < 3 → sets c s ≡ registers s → s .loaded ≡ loads c (s .loaded) → Kept c s
+draws c s t e l =
+    record {
+      memory = λ h. absurd (omega arith);
+      others = λ h. e;
+      colour = λ h. ap (λ (x : Sets). x .state .colour) e;
+      mask = λ h. ap (λ (x : Sets). x .state .mask) e;
+      persistent = λ h k. ap (λ (x : Sets). x .state .persistent) e;
+      serial = λ h k. rw e;
+      loaded = ap (λ (x : Sets). x .state .loaded) e ∙ l;
+      rule = λ rows z h. rw e h;
+      copy = λ words z. rw e (omega arith, omega arith);
+    }
+
 pub kept : (c : Cycle) (s : Vram) → Kept c s
 unfolding writes sets tagOf loads refusal ruled
-kept (WordWrite row column word masking mask strobes) s =
-    record {
-      memory = λ h. absurd (omega arith);
-      others = λ h. refl;
-      colour = λ h. refl;
-      mask = λ h. refl;
-      persistent = λ h k. refl;
-      serial = λ h k. refl;
-      loaded = either (s .loaded);
-      rule = λ rows z h. h;
-      copy = λ words z. (omega arith, omega arith);
-    }
+kept (WordWrite row column word masking mask strobes) s = draws (WordWrite row column word masking mask strobes) s (lit≤ tt) refl (either (s .loaded))
 kept (BlockWrite row column columns masking mask strobes) s =
-    record {
-      memory = λ h. absurd (omega arith);
-      others = λ h. refl;
-      colour = λ h. refl;
-      mask = λ h. refl;
-      persistent = λ h k. refl;
-      serial = λ h k. refl;
-      loaded = either (s .loaded);
-      rule = λ rows z h. h;
-      copy = λ words z. (omega arith, omega arith);
-    }
+    draws (BlockWrite row column columns masking mask strobes) s (lit≤ tt) refl (either (s .loaded))
 kept (LoadColour word strobes) s =
     record {
       memory = λ h. refl;
