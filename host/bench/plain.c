@@ -215,6 +215,14 @@ linkshoar_clocked linkshoar_serial_clock(linkshoar_vram state, const uint16_t *s
     return r;
 }
 
+/* The registers take entry A, and A goes up by one. */
+static void take_entry(linkshoar_palette *p, const uint8_t *table)
+{
+    const uint8_t *entry = table + 3 * p->address;
+    p->red = entry[0] & 63, p->green = entry[1] & 63, p->blue = entry[2] & 63;
+    p->address++;
+}
+
 linkshoar_accessed linkshoar_palette_write(linkshoar_palette p, uint8_t *table, size_t table_bytes, uint32_t select, uint8_t value)
 {
     linkshoar_accessed r = {p, 0, 0};
@@ -227,12 +235,7 @@ linkshoar_accessed linkshoar_palette_write(linkshoar_palette p, uint8_t *table, 
     if (r.number)
         return r;
     switch (select) {
-    case 3: {
-        const uint8_t *entry = table + 3 * value;
-        p.red = entry[0] & 63, p.green = entry[1] & 63, p.blue = entry[2] & 63;
-        p.address = (uint8_t)(value + 1), p.phase = 0;
-        break;
-    }
+    case 3: p.address = value, p.phase = 0, take_entry(&p, table); break;
     case 0: p.address = value, p.phase = FAULT == 5 ? p.phase : 0; break;
     case 2: p.mask = value; break;
     default:
@@ -252,20 +255,27 @@ linkshoar_accessed linkshoar_palette_write(linkshoar_palette p, uint8_t *table, 
     return r;
 }
 
-linkshoar_accessed linkshoar_palette_read(linkshoar_palette p, uint32_t select)
+linkshoar_accessed linkshoar_palette_read(linkshoar_palette p, const uint8_t *table, size_t table_bytes, uint32_t select)
 {
     linkshoar_accessed r = {p, 0, 0};
     if (palette_bad(p))
         r.number = 1;
+    else if (table_bytes != 768)
+        r.number = 3;
     else if (select > 2)
         r.number = 11;
     else if (select == 0)
         r.byte = p.address;
     else if (select == 2)
         r.byte = p.mask;
+    else if (p.phase == 0)
+        r.byte = p.red, r.state.phase = 1;
+    else if (p.phase == 1)
+        r.byte = p.green, r.state.phase = 2;
     else {
-        r.byte = p.phase == 0 ? p.red : p.phase == 1 ? p.green : p.blue;
-        r.state.phase = p.phase == 2 ? 2 * (FAULT == 6) : (uint8_t)(p.phase + 1);
+        r.byte = p.blue, r.state.phase = 0;
+        if (FAULT != 6)
+            take_entry(&r.state, table);
     }
     return r;
 }

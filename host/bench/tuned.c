@@ -370,6 +370,14 @@ static int palette_bad(uint64_t p)
     return ((p | (p + 0x100)) & 0xC0C0C0FC00) != 0;
 }
 
+/* Entry `address` in the colour registers, the next one's address, phase 0, and the pixel mask as it was. */
+static uint64_t entry_taken(uint64_t p, uint8_t address, const uint8_t *table)
+{
+    const uint8_t *entry = table + 3 * address;
+    p = (p & (uint64_t)255 << 40) | (uint8_t)(address + 1);
+    return p | (entry[0] & 63u) << 16 | (uint64_t)(entry[1] & 63) << 24 | (uint64_t)(entry[2] & 63) << 32;
+}
+
 linkshoar_accessed linkshoar_palette_write(linkshoar_palette state, uint8_t *table, size_t table_bytes, uint32_t select, uint8_t value)
 {
     uint64_t p = palette_registers(state);
@@ -389,27 +397,28 @@ linkshoar_accessed linkshoar_palette_write(linkshoar_palette state, uint8_t *tab
         }
         return accessed(p, 0);
     }
-    const uint8_t *entry = table + 3 * value;
     switch (select) {
     case 0: return accessed((p & ~(uint64_t)(FAULT == 5 ? 0xFF : 0xFFFF)) | value, 0);
     case 2: return accessed((p & 0xFFFFFFFFFF) | (uint64_t)value << 40, 0);
-    case 3:
-        p = (p & (uint64_t)255 << 40) | (uint8_t)(value + 1);
-        return accessed(p | (entry[0] & 63u) << 16 | (uint64_t)(entry[1] & 63) << 24 | (uint64_t)(entry[2] & 63) << 32, 0);
+    case 3: return accessed(entry_taken(p, value, table), 0);
     default: return accessed(p, 11);
     }
 }
 
-linkshoar_accessed linkshoar_palette_read(linkshoar_palette state, uint32_t select)
+linkshoar_accessed linkshoar_palette_read(linkshoar_palette state, const uint8_t *table, size_t table_bytes, uint32_t select)
 {
     uint64_t p = palette_registers(state);
     if (palette_bad(p))
         return accessed(p, 1);
+    if (table_bytes != 768)
+        return accessed(p, 3);
     switch (select) {
     case 0: return accessed(p | (p & 255) << 48, 0);
     case 1: {
         uint64_t answer = (p >> (16 + (p >> 5 & 24)) & 255) << 48;
-        return accessed(answer | (p & 0x200 ? p - (FAULT == 6 ? 0 : 0x200) : p + 0x100), 0);
+        if (p & 0x200)
+            return accessed(answer | (FAULT == 6 ? p - 0x200 : entry_taken(p, (uint8_t)p, table)), 0);
+        return accessed(answer | (p + 0x100), 0);
     }
     case 2: return accessed(p | p >> 40 << 48, 0);
     default: return accessed(p, 11);

@@ -108,7 +108,7 @@ static void read_palette(void)
     linkshoar_palette p = linkshoar_palette_fresh();
     uint32_t sum = 0;
     for (int i = 0; i < 1024; i++) {
-        linkshoar_accessed r = linkshoar_palette_read(p, 1);
+        linkshoar_accessed r = linkshoar_palette_read(p, table, 768, 1);
         p = r.state;
         sum += r.byte;
     }

@@ -1,7 +1,8 @@
 /* A results page on a panel: fills planned, lists run, rows transferred, shown through the palette, and written as a picture.
  *   demo PICTURE.png
- * Each result stands in the low byte of the words, its mark in the high byte: amber preliminary, green final. In the end one preliminary
- * result is cleared and painted anew through mask 00FF, over its mark: the mark is still amber. */
+ * Each result stands in the low byte of the words, its mark in the high byte: amber preliminary, green final. The palette is saved, lost and
+ * written back first. In the end one preliminary result is cleared and painted anew through mask 00FF, over its mark: the mark is still
+ * amber. */
 #include "glyphs.h"
 #include "linkshoar.h"
 
@@ -100,14 +101,56 @@ static void rerun(void)
 
 /* ---- showing */
 
+static void put(linkshoar_palette *palette, uint32_t select, uint8_t value)
+{
+    linkshoar_accessed done = linkshoar_palette_write(*palette, table, sizeof table, select, value);
+    must(done.number, "palette write");
+    *palette = done.state;
+}
+
+static uint8_t get(linkshoar_palette *palette, uint32_t select)
+{
+    linkshoar_accessed done = linkshoar_palette_read(*palette, table, sizeof table, select);
+    must(done.number, "palette read");
+    *palette = done.state;
+    return done.byte;
+}
+
 static void colour(linkshoar_palette *palette, uint8_t entry, uint8_t red, uint8_t green, uint8_t blue)
 {
-    const uint8_t values[4] = {entry, red, green, blue};
-    for (uint32_t i = 0; i < 4; i++) {
-        uint32_t select = i ? LINKSHOAR_SELECT_COLOUR : LINKSHOAR_SELECT_ADDRESS;
-        linkshoar_accessed done = linkshoar_palette_write(*palette, table, sizeof table, select, values[i]);
-        must(done.number, "palette");
-        *palette = done.state;
+    put(palette, LINKSHOAR_SELECT_ADDRESS, entry);
+    put(palette, LINKSHOAR_SELECT_COLOUR, red);
+    put(palette, LINKSHOAR_SELECT_COLOUR, green);
+    put(palette, LINKSHOAR_SELECT_COLOUR, blue);
+}
+
+/* The service tool's two jobs: the palette read out whole, and written back. */
+static void save(linkshoar_palette *palette, uint8_t *saved)
+{
+    put(palette, LINKSHOAR_SELECT_READ_ADDRESS, 0);
+    for (size_t i = 0; i < sizeof table; i++)
+        saved[i] = get(palette, LINKSHOAR_SELECT_COLOUR);
+}
+
+static void write_back(linkshoar_palette *palette, const uint8_t *saved)
+{
+    put(palette, LINKSHOAR_SELECT_ADDRESS, 0);
+    for (size_t i = 0; i < sizeof table; i++)
+        put(palette, LINKSHOAR_SELECT_COLOUR, saved[i]);
+}
+
+/* The palette saved, lost and written back. */
+static void power_off(linkshoar_palette *palette)
+{
+    uint8_t saved[sizeof table], before[sizeof table];
+    memcpy(before, table, sizeof table);
+    save(palette, saved);
+    memset(table, 0, sizeof table);
+    *palette = linkshoar_palette_fresh();
+    write_back(palette, saved);
+    if (memcmp(before, table, sizeof table)) {
+        fprintf(stderr, "the palette did not come back\n");
+        exit(1);
     }
 }
 
@@ -201,6 +244,7 @@ int main(int argc, char **argv)
     colour(&palette, RESULT, 61, 62, 63);
     colour(&palette, TITLE, 8, 18, 34);
     colour(&palette, LINE, 13, 17, 23);
+    power_off(&palette);
     page();
     rerun();
     show(palette);

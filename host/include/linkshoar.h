@@ -29,7 +29,7 @@
 extern "C" {
 #endif
 
-#define LINKSHOAR_VERSION "4.2.0"
+#define LINKSHOAR_VERSION "4.3.0"
 
 /* The numbers given back. Where several apply the lowest is given; in a list the first bad field wins, then its lowest number. */
 enum {
@@ -67,9 +67,11 @@ enum {
 /* The palette's selects. */
 enum {
     LINKSHOAR_SELECT_ADDRESS = 0,     /* the address; a write sets the phase to 0 */
-    LINKSHOAR_SELECT_COLOUR = 1,      /* red, green or blue, as the phase says, and the phase moves on; a write of blue sets the entry */
+    LINKSHOAR_SELECT_COLOUR = 1,      /* red, green or blue, as the phase says, and the phase moves on; a write of blue sets the entry at the
+                                         address, a read of blue takes it, and the address goes up by one */
     LINKSHOAR_SELECT_PIXEL_MASK = 2,  /* the pixel mask */
-    LINKSHOAR_SELECT_READ_ADDRESS = 3 /* written only: as select 0, then the colour registers take the entry, so that it can be read */
+    LINKSHOAR_SELECT_READ_ADDRESS = 3 /* written only: as select 0, then the colour registers take the entry, so that it can be read, and the
+                                         address goes up by one */
 };
 
 /* How far a pan of the Am8150 reaches, in words. */
@@ -324,13 +326,15 @@ linkshoar_shown linkshoar_panel_run(linkshoar_vram state, const uint16_t *serial
                                     size_t out_bytes);
 
 /* Palette accesses; select: one of LINKSHOAR_SELECT_. An entry is set by its address to select 0, then red, green and blue to select 1; the
- * next three bytes set the next entry. A write answers byte 0. A write is refused with 1, 3, 11, a read with 1, 11. */
+ * next three bytes set the next entry. An entry is read by its address to select 3, then three reads of select 1; the next three reads answer
+ * the next entry. So 0 to select 3 and 768 reads save the palette, and 0 to select 0 and those bytes bring it back. A read answers what
+ * stood there before it; a write answers byte 0. Refused with 1, 3, 11. */
 linkshoar_accessed linkshoar_palette_write(linkshoar_palette state, uint8_t *table, size_t table_bytes, uint32_t select, uint8_t value);
-linkshoar_accessed linkshoar_palette_read(linkshoar_palette state, uint32_t select);
+linkshoar_accessed linkshoar_palette_read(linkshoar_palette state, const uint8_t *table, size_t table_bytes, uint32_t select);
 
 /* The same with the state lent: the new state is left there. The write answers the number. */
 uint32_t linkshoar_palette_write_lent(linkshoar_palette *state, uint8_t *table, size_t table_bytes, uint32_t select, uint8_t value);
-linkshoar_byte linkshoar_palette_read_lent(linkshoar_palette *state, uint32_t select);
+linkshoar_byte linkshoar_palette_read_lent(linkshoar_palette *state, const uint8_t *table, size_t table_bytes, uint32_t select);
 
 /* ---- The Am8150's counters, for the older boards
  *

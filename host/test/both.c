@@ -64,12 +64,14 @@ void both_palette_write(linkshoar_palette state, size_t table_bytes, uint32_t se
     same_bytes("the table of linkshoar_palette_write", table_a, table_b, table_bytes);
 }
 
-void both_palette_read(linkshoar_palette state, uint32_t select)
+void both_palette_read(linkshoar_palette state, size_t table_bytes, uint32_t select)
 {
-    linkshoar_accessed a = linkshoar_palette_read(state, select), b = model_palette_read(state, select);
+    linkshoar_accessed a = linkshoar_palette_read(state, bytes_of(table_a, table_bytes), table_bytes, select);
+    linkshoar_accessed b = model_palette_read(state, bytes_of(table_b, table_bytes), table_bytes, select);
     count(b.number);
     if (!palette_same(a.state, b.state) || a.byte != b.byte || a.number != b.number)
         differ("linkshoar_palette_read");
+    same_bytes("the table of linkshoar_palette_read", table_a, table_b, table_bytes);
 }
 
 /* ---- with the palette's state lent: it stands between bytes that must stay */
@@ -109,14 +111,15 @@ linkshoar_palette both_palette_write_lent(linkshoar_palette state, size_t table_
     return b.state;
 }
 
-linkshoar_palette both_palette_read_lent(linkshoar_palette state, uint32_t select)
+linkshoar_palette both_palette_read_lent(linkshoar_palette state, size_t table_bytes, uint32_t select)
 {
     guarded lent = guard(state);
-    linkshoar_byte a = linkshoar_palette_read_lent(&lent.state, select);
-    linkshoar_accessed b = model_palette_read(state, select);
+    linkshoar_byte a = linkshoar_palette_read_lent(&lent.state, bytes_of(table_a, table_bytes), table_bytes, select);
+    linkshoar_accessed b = model_palette_read(state, bytes_of(table_b, table_bytes), table_bytes, select);
     count(b.number);
     if (a.number != b.number || a.byte != b.byte)
         differ("linkshoar_palette_read_lent");
     same_guarded("the state lent to linkshoar_palette_read_lent", lent, b.state);
+    same_bytes("the table of linkshoar_palette_read_lent", table_a, table_b, table_bytes);
     return b.state;
 }

@@ -79,8 +79,8 @@ static void palette_edges(void)
         for (uint32_t select = 0; select < 5; select++) {
             both_palette_write(last, table, select, 255);
             both_palette_write_lent(last, table, select, 255);
-            both_palette_read(last, select);
-            both_palette_read_lent(last, select);
+            both_palette_read(last, table, select);
+            both_palette_read_lent(last, table, select);
         }
 }
 

@@ -291,6 +291,15 @@ linkshoar_clocked model_serial_clock(linkshoar_vram state, const uint16_t *seria
 
 /* ---- palette and panel */
 
+/* The registers take entry A, the low six bits of each byte, and A goes up by one. */
+static void take_entry(linkshoar_palette *p, const uint8_t *table)
+{
+    p->red = table[3 * p->address] % 64;
+    p->green = table[3 * p->address + 1] % 64;
+    p->blue = table[3 * p->address + 2] % 64;
+    p->address++;
+}
+
 linkshoar_accessed model_palette_write(linkshoar_palette state, uint8_t *table, size_t table_bytes, uint32_t select, uint8_t value)
 {
     linkshoar_accessed r;
@@ -311,12 +320,8 @@ linkshoar_accessed model_palette_write(linkshoar_palette state, uint8_t *table, 
         p->phase = 0;
 #endif
     }
-    if (select == 3) {
-        p->red = table[3 * p->address] % 64;
-        p->green = table[3 * p->address + 1] % 64;
-        p->blue = table[3 * p->address + 2] % 64;
-        p->address++;
-    }
+    if (select == 3)
+        take_entry(p, table);
     if (select == 2)
         p->mask = value;
     if (select == 1) {
@@ -337,13 +342,15 @@ linkshoar_accessed model_palette_write(linkshoar_palette state, uint8_t *table, 
     return r;
 }
 
-linkshoar_accessed model_palette_read(linkshoar_palette state, uint32_t select)
+linkshoar_accessed model_palette_read(linkshoar_palette state, const uint8_t *table, size_t table_bytes, uint32_t select)
 {
     linkshoar_accessed r;
     memset(&r, 0, sizeof r);
     r.state = state;
     if (!palette_allowed(state))
         r.number = 1;
+    else if (table_bytes != 768 && FAULT != 20) /* a read that does not test the table's length */
+        r.number = 3;
     else if (select > 2)
         r.number = 11;
     else if (select == 0)
@@ -353,6 +360,12 @@ linkshoar_accessed model_palette_read(linkshoar_palette state, uint32_t select)
     else {
         r.byte = state.phase == 0 ? state.red : state.phase == 1 ? state.green : state.blue;
         r.state.phase = (uint8_t)((state.phase + 1) % 3);
+        if (state.phase == 2 && FAULT != 18) /* a read of blue that takes no entry: the rule before M-102 */
+            take_entry(&r.state, table);
+#if FAULT == 19 /* the blue of the entry just taken answered */
+        if (state.phase == 2)
+            r.byte = r.state.blue;
+#endif
     }
     return r;
 }

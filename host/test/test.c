@@ -134,7 +134,7 @@ static void try_palette(void)
     uint32_t select = chance(8) ? (chance(2) ? 257 : any()) : below(5);
     some_bytes(table_a, table_b, 768);
     both_palette_write(s, table, select, (uint8_t)any());
-    both_palette_read(s, select);
+    both_palette_read(s, table, select);
 }
 
 /* Some accesses in a row, with the state lent. */
@@ -145,7 +145,7 @@ static void try_lent(void)
     for (uint32_t n = below(4); n; n--) {
         size_t table = chance(30) ? below(MOST_TABLE) : 768;
         uint32_t select = chance(8) ? (chance(2) ? 257 : any()) : below(5);
-        s = chance(3) ? both_palette_read_lent(s, select) : both_palette_write_lent(s, table, select, (uint8_t)any());
+        s = chance(3) ? both_palette_read_lent(s, table, select) : both_palette_write_lent(s, table, select, (uint8_t)any());
     }
 }
 
@@ -180,6 +180,7 @@ int main(int argc, char **argv)
     try_fresh();
     try_fields();
     try_edges();
+    try_saved();
     while (calls < most || (seconds > 0 && difftime(time(NULL), began) < seconds)) {
         tries[chance(40) ? 11 + below(2) : below(11)]();
         if (chance(2000))

@@ -12,8 +12,9 @@ use Rattle.vram.specs.Serial.{clockIn, lengthOf}
 use Rattle.vram.specs.Calls.{cycleCall, clockRefusal, clockCall}
 use Rattle.vram.specs.Kinds.{tagOf}
 use Rattle.palette.specs.State.{ruled as paletteRuled}
-use Rattle.palette.specs.Access.{afterWrite, tableAfterWrite}
-use Rattle.palette.specs.Calls.{paletteWriteRefusal, writeCall}
+use Rattle.palette.specs.Access.{afterWrite, tableAfterWrite, byteRead, afterRead}
+use Rattle.palette.specs.Calls.{accessRefusal, writeCall, readCall}
+use Rattle.palette.specs.Session.{session}
 use Rattle.list.specs.Tags.{word, known, lenOf, cycleOf}
 use Rattle.list.specs.Fields.{whole, fieldOf, parts}
 use Rattle.list.specs.Encode.{encode, encodeAll, bodyOf}
@@ -23,5 +24,5 @@ use Rattle.planner.specs.Calls.{fillRefusal, fillCall}
 use Rattle.bench.specs.Cases.{starred, Every}
 
 pub starred-cases-hold : Every starred
-unfolding bit ofBits merged covers lets writeRefusal loadRefusal fullRefusal splitRefusal ruled put puts copied effect given refusal number stepBy runBy lengthOf clockIn cycleCall clockRefusal clockCall tagOf paletteRuled afterWrite tableAfterWrite paletteWriteRefusal writeCall word known lenOf cycleOf whole fieldOf parts encode encodeAll bodyOf cycles inside touched picked columnsOf plan fillRefusal fillCall
-starred-cases-hold = (refl, (refl, (refl, (refl, (refl, (refl, (refl, (refl, ((refl, refl, refl), ((refl, refl, refl), ((refl, refl, refl), ((λ m r h k. (rw (h, k), rw (h, k))), tt))))))))))))
+unfolding bit ofBits merged covers lets writeRefusal loadRefusal fullRefusal splitRefusal ruled put puts copied effect given refusal number stepBy runBy lengthOf clockIn cycleCall clockRefusal clockCall tagOf paletteRuled afterWrite tableAfterWrite byteRead afterRead accessRefusal writeCall readCall session word known lenOf cycleOf whole fieldOf parts encode encodeAll bodyOf cycles inside touched picked columnsOf plan fillRefusal fillCall
+starred-cases-hold = (refl, (refl, (refl, (refl, (refl, (refl, (refl, (refl, ((refl, refl, refl), ((refl, refl, refl), ((refl, refl, refl), ((λ m r h k. (rw (h, k), rw (h, k))), (refl, tt)))))))))))))

@@ -1,8 +1,9 @@
--- The bench cases marked * in document 01, "Bench cases": one list that holds them and no other, in its order. Assumes nothing.
-use Prim.Native.Nat.{ℕ, zero, suc}
+-- The bench cases marked * in document 01, "Bench cases", in its order, and the case of change request M-102 in document 02: one list that
+-- holds them and no other. Assumes nothing.
+use Prim.Native.Nat.{ℕ, zero, suc, _%_}
 use mathlib.Core.Path.{_≡_}
-use mathlib.Core.List.{List, [], _∷_, _++_}
-use lib.ListN.{length, replicate}
+use mathlib.Core.List.{List, [], _∷_, _++_, map}
+use lib.ListN.{length, take, replicate}
 use Rattle.vram.specs.declared.Vram.{Vram}
 use Rattle.vram.specs.declared.Cycle.{Cycle}
 use Rattle.vram.specs.declared.Cycle.the-variants.{WordWrite, BlockWrite, LoadColour, FullTransfer, SplitTransfer}
@@ -13,7 +14,7 @@ use Rattle.vram.specs.Step.{run}
 use Rattle.vram.specs.Calls.{cycleCall, clockCall}
 use Rattle.palette.specs.declared.Palette.{Palette}
 use Rattle.palette.specs.State.{fresh as freshPalette}
-use Rattle.palette.specs.Calls.{Outcome as Accesses, outcome as accessesTo, accessed, writeCall}
+use Rattle.palette.specs.Session.{Access, write, read, session, done as answer}
 use Rattle.list.specs.Meaning.{cyclesOf}
 use Rattle.planner.specs.Fill.{fill}
 use Rattle.planner.specs.Calls.{fillCall}
@@ -26,8 +27,8 @@ pub data Case : Type 0 where
   block-write : (masking mask strobes : ℕ) (words : List ℕ) → Case
   -- transfers of row 0, and the places that so many clocks then answer
   serial : (transfers : List Cycle) (clocks : ℕ) (places : List ℕ) → Case
-  -- selects and data written, the state and the table afterwards
-  palette : (writes : List (ℕ × ℕ)) (state : Palette) (table : List ℕ) → Case
+  -- accesses to a fresh palette, the bytes that they answer, the state and the table afterwards
+  palette : (accesses : List Access) (bytes : List ℕ) (state : Palette) (table : List ℕ) → Case
   -- columns of a fill of one row, M FFFF, not persistent, the number of cycles and the cycles
   fill-row : (firstColumn endColumn cycles : ℕ) (list : List Cycle) → Case
   -- a word write to every memory of 512 rows: a row that is accepted, one that is refused, and its number
@@ -53,14 +54,9 @@ abbrev pub done : List ℕ → List Word
 done [] = []
 done (w ∷ l) = record { number = 0; word = w } ∷ done l
 
--- a table whose bytes are all 7
-abbrev pub sevens : List ℕ
-sevens = replicate 768 7
-
--- accesses one after the other
-abbrev pub accesses : List (ℕ × ℕ) → Palette → List ℕ → Accesses
-accesses [] p t = accessesTo (accessed p 0 0) t
-accesses ((select, value) ∷ l) p t = let o = writeCall p t select value in accesses l (o .answer .state) (o .table)
+-- a table in which each byte says its place, mod 256
+abbrev pub numbered : List ℕ
+numbered = map (λ place. place % 256) (places 0 768)
 
 abbrev pub Holds : Case → Type 0
 Holds (block-write masking mask strobes words) =
@@ -69,7 +65,8 @@ Holds (block-write masking mask strobes words) =
 Holds (serial transfers clocks answered) =
     let b = run transfers (board fresh (places 0 512) (replicate 256 0)) in
     clocked clocks (b .state) (b .serial) ≡ done answered
-Holds (palette writes state table) = accesses writes freshPalette sevens ≡ accessesTo (accessed state 0 0) table
+Holds (palette accesses bytes state table) =
+    session accesses freshPalette numbered ≡ record { answers = map answer bytes; state = state; table = table }
 Holds (fill-row firstColumn endColumn cycles list) =
     let o = fillCall (fill 1 0 1 firstColumn endColumn 0xFFFF 0x0011 0) (replicate 32 0) in
     (o .answer .number ≡ 0) × (o .answer .cycles ≡ cycles) × (cyclesOf (listIn o) ≡ list)
@@ -78,7 +75,7 @@ Holds (row accepted refused number) =
     → (cycleCall (WordWrite refused 0 0 0 0 3) (board fresh m r) ≡ record { given = number; after = board fresh m r })
     × (cycleCall (WordWrite accepted 0 0 0 0 3) (board fresh m r) .given ≡ 0)
 
--- ---- document 01's cases
+-- ---- the cases
 
 abbrev pub starred : List Case
 starred =
@@ -95,10 +92,11 @@ starred =
     -- Tap 255, two clocks: 255, 0.
     ∷ serial (FullTransfer 0 0 255 ∷ []) 2 (255 ∷ 0 ∷ [])
     -- Fresh palette state, select 0 = 255, colours 63, 64, 1: entry 255 is (63, 0, 1), A is 0.
-    ∷ palette ((0, 255) ∷ (1, 63) ∷ (1, 64) ∷ (1, 1) ∷ [])
-    (record { address = 0; phase = 0; red = 63; green = 0; blue = 1; mask = 255 }) (replicate 765 7 ++ 63 ∷ 0 ∷ 1 ∷ [])
+    ∷ palette (write 0 255 ∷ write 1 63 ∷ write 1 64 ∷ write 1 1 ∷ []) (0 ∷ 0 ∷ 0 ∷ 0 ∷ [])
+    (record { address = 0; phase = 0; red = 63; green = 0; blue = 1; mask = 255 }) (take 765 numbered ++ 63 ∷ 0 ∷ 1 ∷ [])
     -- Fresh palette state, colours 10, 20, then select 0 = 5: no entry changes, phase 0.
-    ∷ palette ((1, 10) ∷ (1, 20) ∷ (0, 5) ∷ []) (record { address = 5; phase = 0; red = 10; green = 20; blue = 0; mask = 255 }) sevens
+    ∷ palette (write 1 10 ∷ write 1 20 ∷ write 0 5 ∷ []) (0 ∷ 0 ∷ 0 ∷ [])
+    (record { address = 5; phase = 0; red = 10; green = 20; blue = 0; mask = 255 }) numbered
     -- Fill of one row, M FFFF, not persistent, columns 0 to 2 (end): 2 word writes.
     ∷ fill-row 0 2 2 (WordWrite 0 0 0x0011 1 0xFFFF 3 ∷ WordWrite 0 1 0x0011 1 0xFFFF 3 ∷ [])
     -- 0 to 3: colour, one block.
@@ -107,6 +105,9 @@ starred =
     ∷ fill-row 3 5 2 (WordWrite 0 3 0x0011 1 0xFFFF 3 ∷ WordWrite 0 4 0x0011 1 0xFFFF 3 ∷ [])
     -- Row 512 of 512: 5. Row 511 is accepted.
     ∷ row 511 512 5
+    -- M-102: reading one colour after writing select 3 = 255 leaves A at 1. It is entry 255, and the registers have taken entry 0.
+    ∷ palette (write 3 255 ∷ read 1 ∷ read 1 ∷ read 1 ∷ []) (0 ∷ 61 ∷ 62 ∷ 63 ∷ [])
+    (record { address = 1; phase = 0; red = 0; green = 1; blue = 2; mask = 255 }) numbered
     ∷ []
 
 abbrev pub Every : List Case → Type 0

@@ -197,8 +197,8 @@ pub extern "C" fn linkshoar_palette_write(
 
 // A palette read.
 #[no_mangle]
-pub extern "C" fn linkshoar_palette_read(state: Palette, select: u32) -> Accessed
-    ensures { λ r. ⌜ r ≡ readCall state select ⌝ }
+pub extern "C" fn linkshoar_palette_read(state: Palette, table: &[u8], select: u32) -> Accessed
+    ensures { λ r. ⌜ r ≡ readCall state (now (table .entry)) select ⌝ }
 {
-    state.read(select)
+    state.read(table, select)
 }

@@ -27,4 +27,4 @@ pub write-lent-once : Determines write-lent.signature (λ M. write-lent.clauses)
 write-lent-once = by-outcome refl (λ κs a o. (o .answer .number, (o .answer .state, (o .table, (tt, (tt, tt)))))) (λ κs a x. refl)
 
 pub read-lent-once : Determines read-lent.signature (λ M. read-lent.clauses)
-read-lent-once = by-outcome refl (λ κs a o. (record { number = o .number; byte = o .byte }, (o .state, (tt, tt)))) (λ κs a x. refl)
+read-lent-once = by-outcome refl (λ κs a o. (record { number = o .number; byte = o .byte }, (o .state, (tt, (tt, tt))))) (λ κs a x. refl)

@@ -46,16 +46,18 @@ afterWrite p t s d = cond (eqb s 0) (addressed p d) (cond (eqb s 1) (coloured p 
 unfoldable pub tableAfterWrite : Palette → List ℕ → ℕ → ℕ → List ℕ
 tableAfterWrite p t s d = cond (eqb s 1) (colouredTable p t d) t
 
--- ---- a read, by its select
+-- ---- read select 1
 
--- what a colour read leaves: phase moves on, from blue to 0, and nothing else changes
-abbrev pub colourRead : Palette → Palette
-colourRead p = moved p
+-- phase moves on; after blue the registers take entry A, A goes up by one, phase 0
+abbrev pub colourRead : Palette → List ℕ → Palette
+colourRead p t = cond (atBlue p) (taken (moved p) t) (moved p)
+
+-- ---- a read, by its select
 
 -- the byte: A, the register of the phase, the pixel mask
 unfoldable pub byteRead : Palette → ℕ → ℕ
 byteRead p s = cond (eqb s 0) (p .address) (cond (eqb s 1) (register p) (p .mask))
 
 -- the state
-unfoldable pub afterRead : Palette → ℕ → Palette
-afterRead p s = cond (eqb s 1) (colourRead p) p
+unfoldable pub afterRead : Palette → List ℕ → ℕ → Palette
+afterRead p t s = cond (eqb s 1) (colourRead p t) p

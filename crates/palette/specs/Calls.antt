@@ -12,6 +12,10 @@ use Rattle.palette.specs.Access.{afterWrite, tableAfterWrite, byteRead, 
 abbrev pub accessed : Palette → ℕ → ℕ → Accessed
 accessed p byte number = record { state = p; byte = byte; number = number }
 
+-- 1 a state the rules exclude, 3 palette not 768 bytes, 11 a select over the last one
+unfoldable pub accessRefusal : ℕ → Palette → ℕ → ℕ → ℕ
+accessRefusal last p bytes s = refuse (ruled p) 1 (refuse (eqb bytes 768) 3 (refuse (leb s last) 11 0))
+
 -- ---- a write
 
 -- what is answered, and the table afterwards
@@ -22,22 +26,14 @@ pub record Outcome : Type 0 where
 abbrev pub outcome : Accessed → List ℕ → Outcome
 outcome r t = record { answer = r; table = t }
 
--- 1 a state the rules exclude, 3 palette not 768 bytes, 11 select over 3
-unfoldable pub paletteWriteRefusal : Palette → ℕ → ℕ → ℕ
-paletteWriteRefusal p bytes s = refuse (ruled p) 1 (refuse (eqb bytes 768) 3 (refuse (leb s 3) 11 0))
-
 unfoldable pub writeCall : Palette → List ℕ → ℕ → ℕ → Outcome
 writeCall p t s d =
-    let n = paletteWriteRefusal p (length t) s in
+    let n = accessRefusal 3 p (length t) s in
     outcome (accessed (leaves n p (afterWrite p t s d)) 0 n) (leaves n t (tableAfterWrite p t s d))
 
 -- ---- a read
 
--- 1 a state the rules exclude, 11 select over 3, or a read of select 3
-unfoldable pub paletteReadRefusal : Palette → ℕ → ℕ
-paletteReadRefusal p s = refuse (ruled p) 1 (refuse (leb s 2) 11 0)
-
-unfoldable pub readCall : Palette → ℕ → Accessed
-readCall p s =
-    let n = paletteReadRefusal p s in
-    accessed (leaves n p (afterRead p s)) (leaves n 0 (byteRead p s)) n
+unfoldable pub readCall : Palette → List ℕ → ℕ → Accessed
+readCall p t s =
+    let n = accessRefusal 2 p (length t) s in
+    accessed (leaves n p (afterRead p t s)) (leaves n 0 (byteRead p s)) n

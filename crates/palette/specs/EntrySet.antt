@@ -60,7 +60,7 @@ module _ (p : Palette) (t : List ℕ) (rule : ruled p ≡ true) (bytes : length 
   unfolding afterWrite tableAfterWrite
   entry-taken a = write-accepted p t rule bytes 3 a (omega arith)
 
-  colour-write : (d : ℕ) → writeCall p t 1 d ≡ outcome (accessed (coloured p d) 0 0) (colouredTable p t d)
+  pub colour-write : (d : ℕ) → writeCall p t 1 d ≡ outcome (accessed (coloured p d) 0 0) (colouredTable p t d)
   unfolding afterWrite tableAfterWrite
   colour-write d = write-accepted p t rule bytes 1 d (omega arith)
 

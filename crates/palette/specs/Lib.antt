@@ -20,3 +20,11 @@ pub mod AccessLaws
 pub mod KeptLaws
 -- an address and three colours set exactly one entry; what select 3 leaves
 pub mod EntrySet
+-- what a read answers and leaves
+pub mod ReadLaws
+-- accesses one after the other
+pub mod Session
+-- entries read and written one after the other
+pub mod SessionLaws
+-- a palette that is saved comes back
+pub mod Saved

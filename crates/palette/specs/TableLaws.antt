@@ -1,12 +1,13 @@
 -- Laws of the palette's table. Assumes nothing.
-use mathlib.Core.Path.{_≡_, _∙_}
-use mathlib.Core.List.{List}
+use mathlib.Core.Path.{_≡_, refl, sym, ap, _∙_, subst}
+use mathlib.Core.List.{List, [], _∷_, _++_, map, append-nil}
 use mathlib.Core.Logic.{_≢_}
-use Prim.Native.Nat.{ℕ, _+_, _*_, _<_}
+use Prim.Native.Nat.{ℕ, suc, _+_, _*_, _<_}
 use native.Mathlib.Omega.{arith}
-use lib.ListN.{length, getD, set, length-set}
-use lib.Seq.{getD-set-same, getD-set-other}
-use Rattle.palette.specs.Table.{Colour, entry, store}
+use lib.ListN.{length, getD, set, drop, length-set, List·getD-map}
+use lib.Seq.{getD-set-same, getD-set-other, drop-length, drop-cons, sets}
+use Rattle.numbers.specs.BufferLaws.{sets-append, stores-sets, over-sets}
+use Rattle.palette.specs.Table.{Colour, six, entry, gives, store}
 
 module _ (t : List ℕ) (e : ℕ) (c : Colour) where
   pub store-length : length (store t e c) ≡ length t
@@ -60,3 +61,59 @@ module _ (t : List ℕ) (e : ℕ) (c : Colour) where
         store-part f 1 n (omega arith),
         store-part f 2 n (omega arith),
       )
+
+-- ---- entries one after the other
+
+-- the bytes from entry e on: its own, and those from the next
+pub drop-entry : (t : List ℕ) (e : ℕ) → 3 * e + 2 < length t
+    → drop (3 * e) t ≡ getD t (3 * e) 0 ∷ getD t (3 * e + 1) 0 ∷ getD t (3 * e + 2) 0 ∷ drop (3 * suc e) t
+drop-entry t e h =
+    let green : suc (3 * e) ≡ 3 * e + 1 = omega arith in
+    let blue : suc (3 * e + 1) ≡ 3 * e + 2 = omega arith in
+    let next : suc (3 * e + 2) ≡ 3 * suc e = omega arith in
+    rw (
+      drop-cons t (3 * e) 0 (omega arith),
+      green,
+      drop-cons t (3 * e + 1) 0 (omega arith),
+      blue,
+      drop-cons t (3 * e + 2) 0 h,
+      next,
+    )
+
+-- what entry e + 1 gives is what entry e gives without the first three bytes
+pub gives-later : (r g b : ℕ) (l : List ℕ) (e : ℕ) → gives (r ∷ g ∷ b ∷ l) (suc e) ≡ gives l e
+gives-later r g b l e =
+    let red : 3 * suc e ≡ suc (suc (suc (3 * e))) = omega arith in
+    let green : 3 * suc e + 1 ≡ suc (suc (suc (3 * e + 1))) = omega arith in
+    let blue : 3 * suc e + 2 ≡ suc (suc (suc (3 * e + 2))) = omega arith in
+    rw (green, blue, red)
+
+-- an entry stored and bytes from the next on are its three bytes and those
+pub store-sets : (t : List ℕ) (e : ℕ) (c : Colour) (l : List ℕ)
+    → sets (store t e c) (3 * suc e) l ≡ sets t (3 * e) (c .red ∷ c .green ∷ c .blue ∷ l)
+store-sets t e c l =
+    let next : 3 * suc e ≡ 3 * e + 3 = omega arith in
+    rw (next, stores-sets (c .red) t (c .green ∷ c .blue ∷ []) (3 * e)) (sets-append (c .red ∷ c .green ∷ c .blue ∷ []) l t (3 * e))
+
+-- as many bytes as the table has are the whole table
+pub sets-all : (t l : List ℕ) → length l ≡ length t → sets t 0 l ≡ l
+sets-all t l e =
+    let spare : drop (length l) t ≡ [] = subst (λ (n : ℕ). drop n t ≡ []) (sym e) (drop-length t) in
+    over-sets l t (omega (arith, e)) ∙ ap (λ (r : List ℕ). l ++ r) spare ∙ append-nil l
+
+-- ---- a table of six bits
+
+pub six-twice : (byte : ℕ) → six (six byte) ≡ six byte
+six-twice byte = omega arith
+
+-- gives the same colours: only the low six bits of a byte are read
+pub gives-six : (t : List ℕ) (e : ℕ) → gives (map six t) e ≡ gives t e
+gives-six t e = rw (part (3 * e), part (3 * e + 1), part (3 * e + 2))
+  where
+    part : (i : ℕ) → six (getD (map six t) i 0) ≡ six (getD t i 0)
+    part i = ap six (List·getD-map six t i 0) ∙ six-twice (getD t i 0)
+
+-- and is a table of six bits already
+pub sixes-twice : (t : List ℕ) → map six (map six t) ≡ map six t
+sixes-twice [] = refl
+sixes-twice (b ∷ t) = rw (six-twice b, sixes-twice t)

@@ -63,11 +63,16 @@ impl Palette {
         }
     }
 
-    // What a colour read leaves: the phase moves on, and nothing else changes.
-    fn colour_read(self) -> Palette
-        ensures { λ r. ⌜ r ≡ colourRead self ⌝ }
+    // What a colour read leaves: the phase moves on; after blue the registers take entry A.
+    fn colour_read(self, table: &[u8]) -> Palette
+        requires { ⌜ length (now table) ≡ 768 ⌝ }
+        ensures { λ r. ⌜ r ≡ colourRead self (now (table .entry)) ⌝ }
     {
-        self.moved()
+        let state = self.moved();
+        if self.phase == 2 {
+            return state.taken(table);
+        }
+        state
     }
 
     // The byte that a read answers, by its select.
@@ -82,11 +87,12 @@ impl Palette {
     }
 
     // The state that a read leaves.
-    pub(crate) fn after_read(self, select: u32) -> Palette
-        ensures { λ r. ⌜ r ≡ afterRead self select ⌝ }
+    pub(crate) fn after_read(self, table: &[u8], select: u32) -> Palette
+        requires { ⌜ length (now table) ≡ 768 ⌝ }
+        ensures { λ r. ⌜ r ≡ afterRead self (now (table .entry)) select ⌝ }
     {
         if select == 1 {
-            return self.colour_read();
+            return self.colour_read(table);
         }
         self
     }

@@ -28,11 +28,15 @@ pub extern "C" fn linkshoar_palette_write_lent(
 
 // `Palette::read`, with the state left where it was lent.
 #[no_mangle]
-pub extern "C" fn linkshoar_palette_read_lent(state: &mut Palette, select: u32) -> Byte
-    ensures { λ r. ⌜ accessed (now (state .exit)) (r .byte) (r .number) ≡ readCall (now (state .entry)) select ⌝ }
+pub extern "C" fn linkshoar_palette_read_lent(
+    state: &mut Palette,
+    table: &[u8],
+    select: u32,
+) -> Byte
+    ensures { λ r. ⌜ accessed (now (state .exit)) (r .byte) (r .number) ≡ readCall (now (state .entry)) (now (table .entry)) select ⌝ }
 {
     let before = *state;
-    let done = before.read(select);
+    let done = before.read(table, select);
     *state = done.state;
     Byte {
         number: done.number,

@@ -4,7 +4,7 @@
 // their delay, blank, the converters and their levels. One phase serves reads and writes, as the sheet's one counter does.
 ghost use mathlib.Core.Path.{_≡_};
 ghost use Rattle.palette.specs.State.{fresh};
-ghost use Rattle.palette.specs.Calls.{outcome, writeCall, readCall};
+ghost use Rattle.palette.specs.Calls.{accessRefusal, outcome, writeCall, readCall};
 
 mod access;
 mod lent;
@@ -45,13 +45,20 @@ impl Palette {
         }
     }
 
-    // A write, of select 0 to 3. The table's length is checked whether the select uses the table or not.
+    // What refuses an access of select 0 to `last`. The table's length is checked whether the select uses the table or not.
+    fn access_refusal(self, last: u32, bytes: usize, select: u32) -> u32
+        ensures { λ r. ⌜ r ≡ accessRefusal last self bytes select ⌝ }
+    {
+        let n = refuse(select <= last, numbers::SELECT_OTHER, numbers::DONE);
+        let n = refuse(bytes == 768, numbers::REGISTER_LENGTH, n);
+        refuse(self.ruled(), numbers::STATE_EXCLUDED, n)
+    }
+
+    // A write, of select 0 to 3.
     pub fn write(self, table: &mut [u8], select: u32, value: u8) -> Accessed
         ensures { λ r. ⌜ outcome r (now (table .exit)) ≡ writeCall self (now (table .entry)) select value ⌝ }
     {
-        let n = refuse(select <= 3, numbers::SELECT_OTHER, numbers::DONE);
-        let n = refuse(table.len() == 768, numbers::REGISTER_LENGTH, n);
-        let n = refuse(self.ruled(), numbers::STATE_EXCLUDED, n);
+        let n = self.access_refusal(3, table.len(), select);
         if n != numbers::DONE {
             return Accessed {
                 state: self,
@@ -67,12 +74,11 @@ impl Palette {
         }
     }
 
-    // A read, of select 0 to 2.
-    pub fn read(self, select: u32) -> Accessed
-        ensures { λ r. ⌜ r ≡ readCall self select ⌝ }
+    // A read, of select 0 to 2. The byte is the one from before the access.
+    pub fn read(self, table: &[u8], select: u32) -> Accessed
+        ensures { λ r. ⌜ r ≡ readCall self (now (table .entry)) select ⌝ }
     {
-        let n = refuse(select <= 2, numbers::SELECT_OTHER, numbers::DONE);
-        let n = refuse(self.ruled(), numbers::STATE_EXCLUDED, n);
+        let n = self.access_refusal(2, table.len(), select);
         if n != numbers::DONE {
             return Accessed {
                 state: self,
@@ -80,8 +86,8 @@ impl Palette {
                 number: n,
             };
         }
+        let state = self.after_read(table, select);
         let byte = self.byte_read(select);
-        let state = self.after_read(select);
         Accessed {
             state,
             byte,
