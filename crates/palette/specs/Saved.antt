@@ -30,9 +30,13 @@ saved p t = record { answers = done 0 ∷ map (λ b. done (six b)) t; state = ta
 abbrev pub restore : List ℕ → List Access
 restore bytes = write 0 0 ∷ map (write 1) bytes
 
--- every number is 0, and the table is the low six bits of the bytes; A is 0 again, and the registers hold the last entry
+-- every number is 0; A and the phase are 0, and the registers hold the last colour
+abbrev pub written : Palette → Colour → List ℕ → Session
+written p last t = record { answers = replicate 769 (done 0); state = withColours (addressed p 0) last; table = t }
+
+-- and the table is the low six bits of the bytes
 abbrev pub restored : Palette → List ℕ → Session
-restored p bytes = record { answers = replicate 769 (done 0); state = withColours (addressed p 0) (gives bytes 255); table = map six bytes }
+restored p bytes = written p (gives bytes 255) (map six bytes)
 
 -- ---- both, for every allowed state and every table of 768 bytes
 
@@ -46,8 +50,7 @@ module _ (p : Palette) (t : List ℕ) (rule : ruled p ≡ true) (bytes : length 
   it-restores l m =
       session-cons (write 0 0) (map (write 1) l) p t _ (address-write p t rule bytes 0)
       ∙ ap (first (done 0)) (entries-written 255 0 refl l m p t (ruled-parts p rule) bytes)
-      ∙ ap (λ (u : List ℕ). record { answers = replicate 769 (done 0); state = restored p l .state; table = u })
-      (sets-all t (map six l) (length-map l six ∙ m ∙ sym bytes))
+      ∙ ap (written p (gives l 255)) (sets-all t (map six l) (length-map l six ∙ m ∙ sym bytes))
 
 -- the bytes that the reads answered
 abbrev pub bytesRead : Session → List ℕ
@@ -59,8 +62,7 @@ module _ (p q : Palette) (t u : List ℕ) (p-rule : ruled p ≡ true) (q-rule : 
   comes-back =
       ap (λ (l : List ℕ). session (restore l) q u) (ap bytesRead (it-saves p t p-rule bytes) ∙ map-map (λ (a : Byte). a .byte) (λ b. done (six b)) t)
       ∙ it-restores q u q-rule room (map six t) (length-map t six ∙ bytes)
-      ∙ ap₂ (λ (c : Colour) (l : List ℕ). record { answers = replicate 769 (done 0); state = withColours (addressed q 0) c; table = l })
-      (gives-six t 255) (sixes-twice t)
+      ∙ ap₂ (written q) (gives-six t 255) (sixes-twice t)
 
   pub same-colours : (e : ℕ) → gives (session (restore (bytesRead (session save p t))) q u .table) e ≡ gives t e
   same-colours e = ap (λ (s : Session). gives (s .table) e) comes-back ∙ gives-six t e

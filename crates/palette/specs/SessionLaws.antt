@@ -1,17 +1,16 @@
 -- Entries read and written one after the other. Assumes nothing.
 use mathlib.Core.Path.{_≡_, refl, sym, ap, ap₂, _∙_, subst}
-use mathlib.Core.Bool.{true}
 use mathlib.Core.List.{List, [], _∷_, map}
-use Prim.Native.Nat.{ℕ, zero, suc, _+_, _*_, _%_, _<_}
+use Prim.Native.Nat.{ℕ, zero, suc, _+_, _*_, _%_}
 use native.Mathlib.Omega.{arith}
-use lib.ListN.{length, getD, drop, replicate}
+use lib.ListN.{length, drop, replicate}
 use lib.Seq.{sets, drop-length}
 use Rattle.palette.specs.declared.Palette.{Palette}
 use Rattle.palette.specs.declared.Accessed.{Accessed}
 use Rattle.palette.specs.Table.{Colour, colour, six, sixes, gives, store}
-use Rattle.palette.specs.State.{withColours, moved, ruled, register}
+use Rattle.palette.specs.State.{withColours, moved, register}
 use Rattle.palette.specs.Access.{addressed, taken, coloured, colouredTable, colourRead}
-use Rattle.palette.specs.Calls.{accessed, Outcome, outcome, readCall}
+use Rattle.palette.specs.Calls.{accessed, Outcome, outcome}
 use Rattle.palette.specs.TableLaws.{store-length, gives-later, drop-entry, store-sets}
 use Rattle.palette.specs.StateLaws.{Ruled, ruled-whole, six-small, moved-ruled}
 use Rattle.palette.specs.AccessLaws.{addressed-ruled, taken-ruled, coloured-ruled}
