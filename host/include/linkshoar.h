@@ -29,6 +29,8 @@
 extern "C" {
 #endif
 
+/* From 4.2.0 to 4.3.0 the two palette reads take the table, and a read of blue takes the next entry to the colour registers: a program that
+ * reads one entry several times writes its address to select 3 each time. */
 #define LINKSHOAR_VERSION "4.3.0"
 
 /* The numbers given back. Where several apply the lowest is given; in a list the first bad field wins, then its lowest number. */

@@ -11,8 +11,6 @@ mod access;
 mod lent;
 mod state;
 
-use numbers::refuse;
-
 // The registers, by value. Every field is public: a state that the rules exclude can be built, and is refused.
 #[repr(C)]
 pub struct Palette {
@@ -50,9 +48,16 @@ impl Palette {
     fn access_refusal(self, last: u32, bytes: usize, select: u32) -> u32
         ensures { λ r. ⌜ r ≡ accessRefusal last self bytes select ⌝ }
     {
-        let n = refuse(select <= last, numbers::SELECT_OTHER, numbers::DONE);
-        let n = refuse(bytes == 768, numbers::REGISTER_LENGTH, n);
-        refuse(self.ruled(), numbers::STATE_EXCLUDED, n)
+        if !self.ruled() {
+            return numbers::STATE_EXCLUDED;
+        }
+        if bytes != 768 {
+            return numbers::REGISTER_LENGTH;
+        }
+        if select > last {
+            return numbers::SELECT_OTHER;
+        }
+        numbers::DONE
     }
 
     // A write, of select 0 to 3.
