@@ -1,4 +1,4 @@
-/* Document 01 in plain C, as one would write it: what the library is compared with. It is built twice, with -O2 and with -O3. */
+/* Document 01, as the change requests have amended it, in plain C as one would write it: what the library is compared with. It is built twice, with -O2 and with -O3. */
 #include "as.h"
 
 #include <string.h>

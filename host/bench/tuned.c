@@ -1,4 +1,4 @@
-/* Document 01 in C that is written for speed: the rival that the library is measured against beside plain.c. A field is judged once, before
+/* Document 01, as the change requests have amended it, in C that is written for speed: the rival beside plain.c. A field is judged once, before
  * anything runs, and its body is read by whole loads; a block's four words are one number, and so are a palette's registers. It is for a
  * processor that loads and stores at any address, lowest byte first. */
 #include "as.h"

@@ -99,7 +99,7 @@ static void rerun(void)
     text(140, 300, "POS 3.68", RESULT);
 }
 
-/* ---- showing */
+/* ---- the palette, by its accesses */
 
 static void put(linkshoar_palette *palette, uint32_t select, uint8_t value)
 {
@@ -139,8 +139,8 @@ static void write_back(linkshoar_palette *palette, const uint8_t *saved)
         put(palette, LINKSHOAR_SELECT_COLOUR, saved[i]);
 }
 
-/* The palette saved, lost and written back. */
-static void power_off(linkshoar_palette *palette)
+/* A palette is lost at power-off: it is saved before and written back after. */
+static void survive_power_off(linkshoar_palette *palette)
 {
     uint8_t saved[sizeof table], before[sizeof table];
     memcpy(before, table, sizeof table);
@@ -153,6 +153,8 @@ static void power_off(linkshoar_palette *palette)
         exit(1);
     }
 }
+
+/* ---- showing */
 
 static void show(linkshoar_palette palette)
 {
@@ -244,7 +246,7 @@ int main(int argc, char **argv)
     colour(&palette, RESULT, 61, 62, 63);
     colour(&palette, TITLE, 8, 18, 34);
     colour(&palette, LINE, 13, 17, 23);
-    power_off(&palette);
+    survive_power_off(&palette);
     page();
     rerun();
     show(palette);

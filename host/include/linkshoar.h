@@ -29,8 +29,8 @@
 extern "C" {
 #endif
 
-/* From 4.2.0 to 4.3.0 the two palette reads take the table, and a read of blue takes the next entry to the colour registers: a program that
- * reads one entry several times writes its address to select 3 each time. */
+/* Since 4.3.0 the two palette reads take the table, and after a read of blue the colour registers take the next entry and the address goes
+ * up by one: a program that then reads the same entry again, writes colours or reads the address sets the address first. */
 #define LINKSHOAR_VERSION "4.3.0"
 
 /* The numbers given back. Where several apply the lowest is given; in a list the first bad field wins, then its lowest number. */
@@ -69,8 +69,9 @@ enum {
 /* The palette's selects. */
 enum {
     LINKSHOAR_SELECT_ADDRESS = 0,     /* the address; a write sets the phase to 0 */
-    LINKSHOAR_SELECT_COLOUR = 1,      /* red, green or blue, as the phase says, and the phase moves on; a write of blue sets the entry at the
-                                         address, a read of blue takes it, and the address goes up by one */
+    LINKSHOAR_SELECT_COLOUR = 1,      /* red, green or blue, as the phase says, and the phase moves on; after a write of blue the colour
+                                         registers go to the entry at the address, after a read of blue they take it, to be read next; the
+                                         address then goes up by one */
     LINKSHOAR_SELECT_PIXEL_MASK = 2,  /* the pixel mask */
     LINKSHOAR_SELECT_READ_ADDRESS = 3 /* written only: as select 0, then the colour registers take the entry, so that it can be read, and the
                                          address goes up by one */
@@ -100,7 +101,8 @@ typedef struct {
 
 /* The palette's registers. */
 typedef struct {
-    uint8_t address;          /* the entry that the next colour goes to; 255 is followed by 0 */
+    uint8_t address;          /* the entry that the next colour written goes to, and that is taken after the next read of blue; 255 is followed
+                                 by 0 */
     uint8_t phase;            /* whose turn it is: 0 red, 1 green, 2 blue */
     uint8_t red, green, blue; /* 0 to 63 */
     uint8_t mask;             /* the pixel mask: a pixel is ANDed with it */
@@ -329,8 +331,9 @@ linkshoar_shown linkshoar_panel_run(linkshoar_vram state, const uint16_t *serial
 
 /* Palette accesses; select: one of LINKSHOAR_SELECT_. An entry is set by its address to select 0, then red, green and blue to select 1; the
  * next three bytes set the next entry. An entry is read by its address to select 3, then three reads of select 1; the next three reads answer
- * the next entry. So 0 to select 3 and 768 reads save the palette, and 0 to select 0 and those bytes bring it back. A read answers what
- * stood there before it; a write answers byte 0. Refused with 1, 3, 11. */
+ * the next entry. Writing 0 to select 3 and reading select 1 768 times saves the palette, the low six bits of each byte of the table; writing
+ * 0 to select 0 and those 768 bytes to select 1 brings it back. A read answers what stood there before it; a write answers byte 0. Refused
+ * with 1, 3, 11. */
 linkshoar_accessed linkshoar_palette_write(linkshoar_palette state, uint8_t *table, size_t table_bytes, uint32_t select, uint8_t value);
 linkshoar_accessed linkshoar_palette_read(linkshoar_palette state, const uint8_t *table, size_t table_bytes, uint32_t select);
 

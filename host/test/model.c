@@ -349,7 +349,7 @@ linkshoar_accessed model_palette_read(linkshoar_palette state, const uint8_t *ta
     r.state = state;
     if (!palette_allowed(state))
         r.number = 1;
-    else if (table_bytes != 768 && FAULT != 20) /* a read that does not test the table's length */
+    else if (table_bytes != 768 && (FAULT != 20 || select == 1)) /* 3 given for a colour read alone */
         r.number = 3;
     else if (select > 2)
         r.number = 11;

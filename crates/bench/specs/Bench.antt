@@ -1,4 +1,4 @@
--- The starred bench cases hold, by computation over the definitions that the contracts cite. Assumes nothing.
+-- The starred bench cases and M-102's hold, by computation over the definitions that the contracts cite. Assumes nothing.
 use mathlib.Core.Path.{refl}
 use Rattle.words.specs.Bit.{bit, ofBits}
 use Rattle.words.specs.Word.{merged, covers, lets}

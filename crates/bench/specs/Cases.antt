@@ -14,7 +14,8 @@ use Rattle.vram.specs.Step.{run}
 use Rattle.vram.specs.Calls.{cycleCall, clockCall}
 use Rattle.palette.specs.declared.Palette.{Palette}
 use Rattle.palette.specs.State.{fresh as freshPalette}
-use Rattle.palette.specs.Session.{Access, write, read, session, done as answer}
+use Rattle.palette.specs.Calls.{Access, write, read}
+use Rattle.palette.specs.Session.{session, doneWith}
 use Rattle.list.specs.Meaning.{cyclesOf}
 use Rattle.planner.specs.Fill.{fill}
 use Rattle.planner.specs.Calls.{fillCall}
@@ -66,7 +67,7 @@ Holds (serial transfers clocks answered) =
     let b = run transfers (board fresh (places 0 512) (replicate 256 0)) in
     clocked clocks (b .state) (b .serial) ≡ done answered
 Holds (palette accesses bytes state table) =
-    session accesses freshPalette numbered ≡ record { answers = map answer bytes; state = state; table = table }
+    session accesses freshPalette numbered ≡ record { answers = map doneWith bytes; state = state; table = table }
 Holds (fill-row firstColumn endColumn cycles list) =
     let o = fillCall (fill 1 0 1 firstColumn endColumn 0xFFFF 0x0011 0) (replicate 32 0) in
     (o .answer .number ≡ 0) × (o .answer .cycles ≡ cycles) × (cyclesOf (listIn o) ≡ list)
@@ -105,7 +106,7 @@ starred =
     ∷ fill-row 3 5 2 (WordWrite 0 3 0x0011 1 0xFFFF 3 ∷ WordWrite 0 4 0x0011 1 0xFFFF 3 ∷ [])
     -- Row 512 of 512: 5. Row 511 is accepted.
     ∷ row 511 512 5
-    -- M-102: reading one colour after writing select 3 = 255 leaves A at 1. It is entry 255, and the registers have taken entry 0.
+    -- M-102: reading one colour after writing select 3 = 255 leaves A at 1. The colour is entry 255's; the registers have taken entry 0.
     ∷ palette (write 3 255 ∷ read 1 ∷ read 1 ∷ read 1 ∷ []) (0 ∷ 61 ∷ 62 ∷ 63 ∷ [])
     (record { address = 1; phase = 0; red = 0; green = 1; blue = 2; mask = 255 }) numbered
     ∷ []

@@ -1,4 +1,4 @@
--- What each access does where nothing is refused: document 01, "The palette". Assumes nothing.
+-- What each access does where nothing is refused: document 01, "The palette", and of a colour read change request M-102. Assumes nothing.
 use Prim.Native.Nat.{ℕ}
 use mathlib.Core.Bool.{Bool, cond}
 use mathlib.Core.List.{List}
@@ -7,11 +7,13 @@ use Rattle.palette.specs.declared.Palette.{Palette}
 use Rattle.palette.specs.Table.{colour, six, gives, store}
 use Rattle.palette.specs.State.{withAddress, withPhase, withColours, withMask, register, withRegister, moved, advanced}
 
--- ---- write select 0, and select 3
+-- ---- write select 0
 
 -- A = data, phase 0
 abbrev pub addressed : Palette → ℕ → Palette
 addressed p d = withPhase (withAddress p d) 0
+
+-- ---- after a write of select 3, and after a read of blue
 
 -- the registers take entry A, and A goes up by one
 abbrev pub taken : Palette → List ℕ → Palette

@@ -7,7 +7,7 @@ use Prim.Native.Nat.{ℕ, _≤_, _<_}
 use lib.Dec.{eqb, leb}
 use lib.ListN.{length}
 use borrow.Author.Tests.{eqb-true, leb-true, ne-eqb, le-leb, lt-leb}
-use Rattle.numbers.specs.RefuseLaws.{refuse-zero, leaves-before}
+use Rattle.numbers.specs.RefuseLaws.{refuse-zero}
 use Rattle.palette.specs.declared.Palette.{Palette}
 use Rattle.palette.specs.declared.Accessed.{Accessed}
 use Rattle.palette.specs.State.{ruled}
@@ -53,7 +53,7 @@ module _ (last : ℕ) (p : Palette) (bytes s : ℕ) where
 module _ (p : Palette) (t : List ℕ) (s d n : ℕ) (e : n ≡ accessRefusal 3 p (length t) s) where
   pub write-refused : n ≢ 0 → outcome (accessed p 0 n) t ≡ writeCall p t s d
   unfolding writeCall
-  write-refused h = rw (← e, leaves-before n p (afterWrite p t s d) h, leaves-before n t (tableAfterWrite p t s d) h)
+  write-refused h = rw (← e, ne-eqb n 0 h)
 
   pub write-done : {p′ : Palette} {t′ : List ℕ} → n ≡ 0 → p′ ≡ afterWrite p t s d → t′ ≡ tableAfterWrite p t s d
       → outcome (accessed p′ 0 0) t′ ≡ writeCall p t s d
@@ -77,7 +77,7 @@ write-byte p t s d e = ap (λ (o : Outcome). outcome (accessed (o .answer .state
 module _ (p : Palette) (t : List ℕ) (s n : ℕ) (e : n ≡ accessRefusal 2 p (length t) s) where
   pub read-refused : n ≢ 0 → accessed p 0 n ≡ readCall p t s
   unfolding readCall
-  read-refused h = rw (← e, leaves-before n p (afterRead p t s) h, leaves-before n 0 (byteRead p s) h)
+  read-refused h = rw (← e, ne-eqb n 0 h)
 
   pub read-done : {p′ : Palette} {byte : ℕ} → n ≡ 0 → p′ ≡ afterRead p t s → byte ≡ byteRead p s → accessed p′ byte 0 ≡ readCall p t s
   unfolding readCall

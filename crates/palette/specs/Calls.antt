@@ -26,6 +26,7 @@ pub record Outcome : Type 0 where
 abbrev pub outcome : Accessed → List ℕ → Outcome
 outcome r t = record { answer = r; table = t }
 
+-- selects 0 to 3 can be written
 unfoldable pub writeCall : Palette → List ℕ → ℕ → ℕ → Outcome
 writeCall p t s d =
     let n = accessRefusal 3 p (length t) s in
@@ -33,7 +34,18 @@ writeCall p t s d =
 
 -- ---- a read
 
+-- selects 0 to 2 can be read
 unfoldable pub readCall : Palette → List ℕ → ℕ → Accessed
 readCall p t s =
     let n = accessRefusal 2 p (length t) s in
     accessed (leaves n p (afterRead p t s)) (leaves n 0 (byteRead p s)) n
+
+-- ---- either, with its arguments
+
+pub data Access : Type 0 where
+  write : (select value : ℕ) → Access
+  read : (select : ℕ) → Access
+
+abbrev pub access : Access → Palette → List ℕ → Outcome
+access (write s d) p t = writeCall p t s d
+access (read s) p t = outcome (readCall p t s) t

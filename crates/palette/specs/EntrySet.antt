@@ -60,25 +60,46 @@ module _ (p : Palette) (t : List ℕ) (rule : ruled p ≡ true) (bytes : length 
   unfolding afterWrite tableAfterWrite
   entry-taken a = write-accepted p t rule bytes 3 a (omega arith)
 
-  pub colour-write : (d : ℕ) → writeCall p t 1 d ≡ outcome (accessed (coloured p d) 0 0) (colouredTable p t d)
+  colour-write : (d : ℕ) → writeCall p t 1 d ≡ outcome (accessed (coloured p d) 0 0) (colouredTable p t d)
   unfolding afterWrite tableAfterWrite
   colour-write d = write-accepted p t rule bytes 1 d (omega arith)
+
+-- ---- the three writes of a colour, after an address write, one by one
+
+-- with red written, and with green
+abbrev pub toGreen : Palette → ℕ → ℕ → Palette
+toGreen p a r = coloured (addressed p a) r
+
+abbrev pub toBlue : Palette → ℕ → ℕ → ℕ → Palette
+toBlue p a r g = coloured (toGreen p a r) g
+
+module _ (p : Palette) (t : List ℕ) (a r g b : ℕ) (rule : Ruled p) (bytes : length t ≡ 768) where
+  pub red-write : writeCall (addressed p a) t 1 r ≡ outcome (accessed (toGreen p a r) 0 0) t
+  red-write = colour-write (addressed p a) t (ruled-whole (addressed p a) (addressed-ruled p rule a)) bytes r
+
+  toGreen-ruled : Ruled (toGreen p a r)
+  toGreen-ruled = coloured-ruled (addressed p a) (addressed-ruled p rule a) r
+
+  pub green-write : writeCall (toGreen p a r) t 1 g ≡ outcome (accessed (toBlue p a r g) 0 0) t
+  green-write = colour-write (toGreen p a r) t (ruled-whole (toGreen p a r) toGreen-ruled) bytes g
+
+  toBlue-ruled : Ruled (toBlue p a r g)
+  toBlue-ruled = coloured-ruled (toGreen p a r) toGreen-ruled g
+
+  pub blue-write : writeCall (toBlue p a r g) t 1 b
+      ≡ outcome (accessed (withColours (advanced (addressed p a)) (sixes (colour r g b))) 0 0) (store t a (sixes (colour r g b)))
+  blue-write = colour-write (toBlue p a r g) t (ruled-whole (toBlue p a r g) toBlue-ruled) bytes b
 
 module _ (p : Palette) (t : List ℕ) (a r g b : ℕ) (rule : ruled p ≡ true) (bytes : length t ≡ 768) where
   -- the state, and the whole table
   pub colour-writes : colourWrites p t a r g b
       ≡ outcome (accessed (withColours (advanced (addressed p a)) (sixes (colour r g b))) 0 0) (store t a (sixes (colour r g b)))
   colour-writes =
-      let p₁ = addressed p a in
-      let p₂ = coloured p₁ r in
-      let p₃ = coloured p₂ g in
-      let r₁ : Ruled p₁ = addressed-ruled p (ruled-parts p rule) a in
-      let r₂ : Ruled p₂ = coloured-ruled p₁ r₁ r in
-      let r₃ : Ruled p₃ = coloured-ruled p₂ r₂ g in
+      let q = ruled-parts p rule in
       ap (λ (o : Outcome). next (next (next o 1 r) 1 g) 1 b) (address-write p t rule bytes a)
-      ∙ ap (λ (o : Outcome). next (next o 1 g) 1 b) (colour-write p₁ t (ruled-whole p₁ r₁) bytes r)
-      ∙ ap (λ (o : Outcome). next o 1 b) (colour-write p₂ t (ruled-whole p₂ r₂) bytes g)
-      ∙ colour-write p₃ t (ruled-whole p₃ r₃) bytes b
+      ∙ ap (λ (o : Outcome). next (next o 1 g) 1 b) (red-write p t a r g b q bytes)
+      ∙ ap (λ (o : Outcome). next o 1 b) (green-write p t a r g b q bytes)
+      ∙ blue-write p t a r g b q bytes
 
   pub entry-set : a < 256 → EntrySet t a r g b (colourWrites p t a r g b)
   entry-set h =

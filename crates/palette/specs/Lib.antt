@@ -1,4 +1,4 @@
--- The rules of document 01, "The palette", and the laws about them.
+-- The rules of document 01, "The palette", with change request M-102, and the laws about them.
 
 -- entries and colours of six bits
 pub mod Table

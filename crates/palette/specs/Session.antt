@@ -3,16 +3,7 @@ use Prim.Native.Nat.{ℕ}
 use mathlib.Core.List.{List, [], _∷_}
 use Rattle.palette.specs.declared.Palette.{Palette}
 use Rattle.palette.specs.declared.lent.Byte.{Byte}
-use Rattle.palette.specs.Calls.{Outcome, outcome, writeCall, readCall}
-
-pub data Access : Type 0 where
-  write : (select value : ℕ) → Access
-  read : (select : ℕ) → Access
-
--- what it answers, and the table afterwards
-abbrev pub access : Access → Palette → List ℕ → Outcome
-access (write s d) p t = writeCall p t s d
-access (read s) p t = outcome (readCall p t s) t
+use Rattle.palette.specs.Calls.{Outcome, Access, access}
 
 -- number and byte of each answer in order, and the state and the table that are left
 pub record Session : Type 0 where
@@ -33,6 +24,6 @@ session (a ∷ l) p t =
     let o = access a p t in
     first (answered o) (session l (o .answer .state) (o .table))
 
--- an answer with number 0
-abbrev pub done : ℕ → Byte
-done byte = record { number = 0; byte = byte }
+-- the answer with this byte and number 0
+abbrev pub doneWith : ℕ → Byte
+doneWith byte = record { number = 0; byte = byte }

@@ -9,19 +9,19 @@ use Rattle.palette.specs.declared.Palette.{Palette}
 use Rattle.palette.specs.declared.Accessed.{Accessed}
 use Rattle.palette.specs.Table.{Colour, colour, six, sixes, gives, store}
 use Rattle.palette.specs.State.{withColours, moved, register}
-use Rattle.palette.specs.Access.{addressed, taken, coloured, colouredTable, colourRead}
-use Rattle.palette.specs.Calls.{accessed, Outcome, outcome}
+use Rattle.palette.specs.Access.{addressed, taken, colourRead}
+use Rattle.palette.specs.Calls.{accessed, Outcome, outcome, Access, write, read, access}
 use Rattle.palette.specs.TableLaws.{store-length, gives-later, drop-entry, store-sets}
 use Rattle.palette.specs.StateLaws.{Ruled, ruled-whole, six-small, moved-ruled}
-use Rattle.palette.specs.AccessLaws.{addressed-ruled, taken-ruled, coloured-ruled}
-use Rattle.palette.specs.EntrySet.{colour-write}
+use Rattle.palette.specs.AccessLaws.{addressed-ruled, taken-ruled}
+use Rattle.palette.specs.EntrySet.{toGreen, toBlue, red-write, green-write, blue-write}
 use Rattle.palette.specs.ReadLaws.{colour-read}
-use Rattle.palette.specs.Session.{Access, write, read, access, Session, answered, first, session, done}
+use Rattle.palette.specs.Session.{Session, answered, first, session, doneWith}
 
 -- these bytes, each with number 0, before others
 abbrev also : List ℕ → Session → Session
 also [] s = s
-also (b ∷ l) s = first (done b) (also l s)
+also (b ∷ l) s = first (doneWith b) (also l s)
 
 pub session-nil : (p : Palette) (t : List ℕ) → session [] p t ≡ record { answers = []; state = p; table = t }
 unfolding session
@@ -62,7 +62,7 @@ module _ (p : Palette) (t : List ℕ) (rule : Ruled p) (bytes : length t ≡ 768
   -- from entry k to the last: the table's bytes in order, the low six bits of each
   pub entries-read : (n k : ℕ) → k + n ≡ 256
       → session (replicate (3 * n) (read 1)) (held (k % 256)) t
-      ≡ record { answers = map (λ b. done (six b)) (drop (3 * k) t); state = held 0; table = t }
+      ≡ record { answers = map (λ b. doneWith (six b)) (drop (3 * k) t); state = held 0; table = t }
   entries-read zero k e =
       let last : k ≡ 256 = omega arith in
       let none : drop 768 t ≡ [] = subst (λ (n : ℕ). drop n t ≡ []) bytes (drop-length t) in
@@ -78,32 +78,22 @@ module _ (p : Palette) (t : List ℕ) (rule : Ruled p) (bytes : length t ≡ 768
 
 -- ---- writes
 
-write-cons : (d : ℕ) (l : List Access) (p : Palette) (t : List ℕ) → Ruled p → length t ≡ 768
-    → session (write 1 d ∷ l) p t ≡ also (0 ∷ []) (session l (coloured p d) (colouredTable p t d))
-write-cons d l p t r bytes =
-    session-cons (write 1 d) l p t (outcome (accessed (coloured p d) 0 0) (colouredTable p t d)) (colour-write p t (ruled-whole p r) bytes d)
-
 -- three writes from phase 0 set entry k, and leave the palette at the next
 entry-written : (p : Palette) (t : List ℕ) → Ruled p → length t ≡ 768 → (k r g b : ℕ) (l : List Access)
     → session (write 1 r ∷ write 1 g ∷ write 1 b ∷ l) (addressed p k) t
     ≡ also (0 ∷ 0 ∷ 0 ∷ [])
     (session l (addressed (withColours p (sixes (colour r g b))) ((k + 1) % 256)) (store t k (sixes (colour r g b))))
 entry-written p t rule bytes k r g b l =
-    let q = addressed p k in
-    let q-ruled = addressed-ruled p rule k in
-    let green = coloured q r in
-    let green-ruled = coloured-ruled q q-ruled r in
-    let blue = coloured green g in
-    write-cons r (write 1 g ∷ write 1 b ∷ l) q t q-ruled bytes
-    ∙ ap (also (0 ∷ [])) (write-cons g (write 1 b ∷ l) green t green-ruled bytes)
-    ∙ ap (also (0 ∷ 0 ∷ [])) (write-cons b l blue t (coloured-ruled green green-ruled g) bytes)
+    session-cons (write 1 r) (write 1 g ∷ write 1 b ∷ l) (addressed p k) t _ (red-write p t k r g b rule bytes)
+    ∙ ap (also (0 ∷ [])) (session-cons (write 1 g) (write 1 b ∷ l) (toGreen p k r) t _ (green-write p t k r g b rule bytes))
+    ∙ ap (also (0 ∷ 0 ∷ [])) (session-cons (write 1 b) l (toBlue p k r g) t _ (blue-write p t k r g b rule bytes))
 
 -- from entry k to the last: every number 0, and the table takes the low six bits of each byte from entry k on
 pub entries-written : (n k : ℕ) → k + suc n ≡ 256 → (l : List ℕ) → length l ≡ 3 * suc n
     → (p : Palette) (t : List ℕ) → Ruled p → length t ≡ 768
     → session (map (write 1) l) (addressed p (k % 256)) t
     ≡ record {
-      answers = replicate (3 * suc n) (done 0);
+      answers = replicate (3 * suc n) (doneWith 0);
       state = addressed (withColours p (gives l n)) 0;
       table = sets t (3 * k) (map six l);
     }
@@ -122,7 +112,7 @@ entries-written (suc n) k e (r ∷ g ∷ b ∷ l) m p t rule bytes =
     let here : k % 256 ≡ k = omega arith in
     let next : (k + 1) % 256 ≡ suc k % 256 = omega arith in
     let left : Colour → List ℕ → Session = λ last u.
-    record { answers = replicate (3 * suc (suc n)) (done 0); state = addressed (withColours p last) 0; table = u } in
+    record { answers = replicate (3 * suc (suc n)) (doneWith 0); state = addressed (withColours p last) 0; table = u } in
     rw here (entry-written p t rule bytes k r g b (map (write 1) l)
     ∙ ap (also (0 ∷ 0 ∷ 0 ∷ []))
     (ap (λ (i : ℕ). session (map (write 1) l) (addressed q i) (store t k c)) next

@@ -1,6 +1,6 @@
 // The Am81C176 palette. Source document 001, its pages on the MPU interface: the running text, Table 1 (the selects) and Table 2 (what each
-// access does). Of a colour read the two say different things, and the running text decides: at the end of blue the colour registers take
-// the next entry and A goes up by one, which Table 2 leaves out.
+// access does). On a colour read the running text and Table 2 differ, and the running text decides (change request M-102): at the end of
+// blue the colour registers take the next entry, and A goes up by one.
 // A call stands for a whole access. Not modelled: pin edges, nanoseconds and the clocks between two accesses, the pixel inputs and
 // their delay, blank, the converters and their levels. One phase serves reads and writes, as the sheet's one counter does.
 ghost use mathlib.Core.Path.{_≡_};
