@@ -20,7 +20,8 @@
 
 /* FAULT plants one error in plain.c and in tuned.c, which the test program must find: 1 a block write keeps the low column bits, 2 a plain
  * write is accepted with a mask, 3 a waiting tap is not used up, 4 the pixel mask is ignored, 5 the palette's phase is kept across an
- * address write, 6 a read of blue takes no entry, 7 a fill goes by blocks where words are no more cycles. */
+ * address write, 6 a read of blue takes no entry, 7 a fill goes by blocks where words are no more cycles, 8 a high byte of 255 is a
+ * mark. */
 #ifndef FAULT
 #define FAULT 0
 #endif

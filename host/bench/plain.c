@@ -189,7 +189,8 @@ linkshoar_shown linkshoar_panel_run(linkshoar_vram state, const uint16_t *serial
             out += 3 * n;
         } else {
             for (uint32_t i = 0; i < n; i++, out += 3) {
-                unsigned pixel = word[i] >> 8 ? word[i] >> 8 : word[i] & 255u;
+                unsigned high = word[i] >> 8, low = word[i] & 255u;
+                unsigned pixel = high == 0 ? low : high == 255 && FAULT != 8 ? low ^ 255u : high;
                 const uint8_t *entry = table + 3 * (pixel & (FAULT == 4 ? 255 : palette.mask));
                 out[0] = entry[0] & 63, out[1] = entry[1] & 63, out[2] = entry[2] & 63;
             }

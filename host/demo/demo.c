@@ -1,8 +1,8 @@
 /* A results page on a panel: fills planned, lists run, rows transferred, shown through the palette, and written as a picture.
  *   demo PICTURE.png
  * Each result stands in the low byte of the words, its mark in the high byte: amber preliminary, green final. The palette is saved, lost and
- * written back first. In the end one preliminary result is cleared and painted anew through mask 00FF, over its mark: the mark is still
- * amber. */
+ * written back first. Two preliminary results are rechecked and stand in reverse video. In the end the rerun of one has come: its line is
+ * cleared and painted anew through mask 00FF, over its mark, which is still amber; the other waits, its old result still legible. */
 #include "glyphs.h"
 #include "linkshoar.h"
 
@@ -11,6 +11,8 @@
 #include <string.h>
 
 enum { ROWS = 320, COLUMNS = LINKSHOAR_COLUMNS };
+enum { HIV = 64, HBS = 100, HCV = 136, SYPHILIS = 172, CMV = 208, LEGEND = 272 }; /* the lines, by their first row */
+enum { VALUE = 300 };                                                             /* the column where a value begins */
 enum { DARK = 0, AMBER = 1, GREEN = 2, LABEL = 3, RESULT = 4, TITLE = 5, LINE = 6 }; /* palette entries */
 
 static uint16_t memory[ROWS * COLUMNS], serial[LINKSHOAR_SERIAL_WORDS];
@@ -70,8 +72,14 @@ static void result(uint32_t row, const char *label, const char *value, uint8_t s
 {
     mark(row, 24, 22, 22, status);
     text(row + 4, 64, label, LABEL);
-    text(row + 4, 300, value, RESULT);
+    text(row + 4, VALUE, value, RESULT);
     paint(row + 29, 24, 1, 464, LINE);
+}
+
+/* Eight letters or fewer in reverse video, by one fill of the high bytes: the low bytes, the old result, stay. With 0 it ends. */
+static void reverse(uint32_t row, uint32_t column, uint8_t high)
+{
+    mark(row, column - 8, 22, 110, high);
 }
 
 static void page(void)
@@ -80,23 +88,26 @@ static void page(void)
     paint(0, 0, 44, COLUMNS, TITLE);
     text(15, 24, "BLOOD SCREENING", RESULT);
     text(15, 360, "UNIT 0417", RESULT);
-    result(64, "HIV AB", "NEG 0.12", GREEN);
-    result(100, "HBS AG", "NEG 0.08", GREEN);
-    result(136, "HCV AB", "POS 3.71", AMBER);
-    result(172, "SYPHILIS", "NEG 0.21", GREEN);
-    result(208, "CMV AB", "NEG 0.35", AMBER);
-    mark(272, 24, 22, 22, AMBER);
-    text(276, 64, "PRELIMINARY", LABEL);
-    mark(272, 276, 22, 22, GREEN);
-    text(276, 316, "FINAL", LABEL);
+    result(HIV, "HIV AB", "NEG 0.12", GREEN);
+    result(HBS, "HBS AG", "NEG 0.08", GREEN);
+    result(HCV, "HCV AB", "POS 3.71", AMBER);
+    result(SYPHILIS, "SYPHILIS", "NEG 0.21", GREEN);
+    result(CMV, "CMV AB", "NEG 0.35", AMBER);
+    mark(LEGEND, 24, 22, 22, AMBER);
+    text(LEGEND + 4, 58, "PRELIMINARY", LABEL);
+    mark(LEGEND, 226, 22, 22, GREEN);
+    text(LEGEND + 4, 260, "FINAL", LABEL);
+    text(LEGEND + 4, 392, "RECHECK", RESULT);
+    reverse(LEGEND, 386, LINKSHOAR_HIGH_REVERSE);
 }
 
-/* The rerun of a preliminary result: its whole line cleared and painted anew through mask 00FF, mark and all. */
+/* The rerun of a preliminary result has come: its whole line cleared and painted anew through mask 00FF, mark and all, and upright again. */
 static void rerun(void)
 {
-    paint(136, 24, 22, 464, DARK);
-    text(140, 64, "HCV AB", LABEL);
-    text(140, 300, "POS 3.68", RESULT);
+    paint(HCV, 24, 22, 464, DARK);
+    text(HCV + 4, 64, "HCV AB", LABEL);
+    text(HCV + 4, VALUE, "POS 3.68", RESULT);
+    reverse(HCV, VALUE, LINKSHOAR_HIGH_RESULT);
 }
 
 /* ---- the palette, by its accesses */
@@ -122,6 +133,14 @@ static void colour(linkshoar_palette *palette, uint8_t entry, uint8_t red, uint8
     put(palette, LINKSHOAR_SELECT_COLOUR, red);
     put(palette, LINKSHOAR_SELECT_COLOUR, green);
     put(palette, LINKSHOAR_SELECT_COLOUR, blue);
+}
+
+/* Reverse video shows entry 255 - e for e: for two entries, the colours exchanged. */
+static void colours_in_reverse(linkshoar_palette *palette, uint8_t one, uint8_t other)
+{
+    const uint8_t *a = table + 3 * one, *b = table + 3 * other;
+    colour(palette, 255 - one, b[0], b[1], b[2]);
+    colour(palette, 255 - other, a[0], a[1], a[2]);
 }
 
 /* The service tool's two jobs: the palette read out whole, and written back. */
@@ -246,14 +265,22 @@ int main(int argc, char **argv)
     colour(&palette, RESULT, 61, 62, 63);
     colour(&palette, TITLE, 8, 18, 34);
     colour(&palette, LINE, 13, 17, 23);
+    colours_in_reverse(&palette, DARK, RESULT);
     survive_power_off(&palette);
     page();
+    reverse(HCV, VALUE, LINKSHOAR_HIGH_REVERSE);
+    reverse(CMV, VALUE, LINKSHOAR_HIGH_REVERSE);
     rerun();
     show(palette);
     write_picture(argc > 1 ? argv[1] : "page.png");
     printf("%lu fills, %lu cycles; word by word %lu\n", fills, cycles, words_alone);
-    if (memory[136 * COLUMNS + 24] >> 8 != AMBER) {
+    if (memory[HCV * COLUMNS + 24] >> 8 != AMBER) {
         printf("the mark is lost\n");
+        return 1;
+    }
+    uint16_t corner = memory[(CMV + 4) * COLUMNS + VALUE]; /* of the old result's first letter: there, and shown as dark as the page */
+    if (corner != (LINKSHOAR_HIGH_REVERSE << 8 | RESULT) || memcmp(picture[CMV + 4][VALUE], picture[HIV - 4][0], 3)) {
+        printf("the old result is not legible\n");
         return 1;
     }
     return 0;

@@ -29,9 +29,11 @@
 extern "C" {
 #endif
 
-/* Since 4.3.0 the two palette reads take the table, and after a read of blue the colour registers take the next entry and the address goes
+/* Since 4.4.0 a high byte of 255 is no mark: the panel shows the low byte inverted. A program whose marks show entry 255 takes another
+ * entry for them; all others are only compiled and linked again.
+ * Since 4.3.0 the two palette reads take the table, and after a read of blue the colour registers take the next entry and the address goes
  * up by one: a program that then reads the same entry again, writes colours or reads the address sets the address first. */
-#define LINKSHOAR_VERSION "4.3.0"
+#define LINKSHOAR_VERSION "4.4.0"
 
 /* The numbers given back. Where several apply the lowest is given; in a list the first bad field wins, then its lowest number. */
 enum {
@@ -64,6 +66,12 @@ enum {
     LINKSHOAR_LIST_BYTES = 851974,  /* the longest list that a fill writes */
     LINKSHOAR_FIELD_BYTES = 13,     /* the longest field of a list */
     LINKSHOAR_ADDRESSES = 262144    /* the Am8150's addresses: 18 bits */
+};
+
+/* The high bytes that are no mark: what the panel shows of a word then. Every other is a mark, and is shown itself. */
+enum {
+    LINKSHOAR_HIGH_RESULT = 0,   /* the low byte, the result */
+    LINKSHOAR_HIGH_REVERSE = 255 /* the low byte with all eight bits inverted, the result in reverse */
 };
 
 /* The palette's selects. */
@@ -320,8 +328,12 @@ linkshoar_word linkshoar_word_read(const uint16_t *memory, size_t words, uint32_
 linkshoar_clocked linkshoar_serial_clock(linkshoar_vram state, const uint16_t *serial, size_t serial_words);
 
 /* A run of 0 to 512 clocks to the panel: red, green, blue, 0 to 63, of each word at the start of out, zeros where blank is not 0. A word's
- * pixel is its high byte, or its low byte where the high byte is 0; the pixel ANDed with the pixel mask is the entry shown. out_bytes: the
- * room in out, at least 3 * clocks. Refused with 1, 3, 10, 14, 15.
+ * pixel is its high byte, the mark; but where that is 0 its low byte, the result, and where that is 255 its low byte with all eight bits
+ * inverted, the result in reverse. The pixel ANDed with the pixel mask is the entry shown: FFFF shows entry 0. out_bytes: the room in out, at
+ * least 3 * clocks. Refused with 1, 3, 10, 14, 15.
+ *
+ * Reverse video, for a recheck: a fill of the result's cell through mask FF00 with LINKSHOAR_HIGH_REVERSE * 256 leaves the result below as it
+ * is and shows entry 255 - e for a result of e; with 0 it ends. So the entries 255 - e have the colours that e has in reverse.
  *
  * The serial register holds half a row, so a row is shown in two steps: a full transfer of half 0 with tap 0, run as a list, and a run of
  * 256 clocks; then the same with half 1. */

@@ -52,7 +52,7 @@ uint8_t *const bytes_a = bytes[0] + AROUND, *const bytes_b = bytes[1] + AROUND;
 void some_words(uint16_t *a, uint16_t *b, size_t n)
 {
     for (size_t i = 0; i < n; i++)
-        a[i] = b[i] = (uint16_t)(chance(3) ? below(256) : any());
+        a[i] = b[i] = (uint16_t)(chance(3) ? below(256) : chance(8) ? 0xFF00 + below(256) : any());
 }
 
 void some_bytes(uint8_t *a, uint8_t *b, size_t n)

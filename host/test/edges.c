@@ -70,6 +70,25 @@ static void panel_edges(void)
     }
 }
 
+/* Every word that there is, those with one high byte in one register, through pixel masks that keep all of a pixel, nothing, and some bits. */
+static void every_word(void)
+{
+    static const uint8_t masks[] = {255, 0, 1, 128, 0x0F, 0xF0, 0x55, 0xAA};
+    linkshoar_palette palette = linkshoar_palette_fresh();
+    for (unsigned e = 0; e < 256; e++) { /* no two entries alike */
+        table_a[3 * e] = table_b[3 * e] = (uint8_t)(e % 64);
+        table_a[3 * e + 1] = table_b[3 * e + 1] = (uint8_t)(e / 64);
+    }
+    for (unsigned high = 0; high < 256; high++) {
+        for (unsigned low = 0; low < 256; low++)
+            serial_a[low] = serial_b[low] = (uint16_t)(256 * high + low);
+        for (size_t m = 0; m < sizeof masks; m++) {
+            palette.mask = masks[m];
+            both_panel_run(loaded(), 256, palette, 768, 256, 0, 768);
+        }
+    }
+}
+
 static void palette_edges(void)
 {
     linkshoar_palette last = linkshoar_palette_fresh();
@@ -90,5 +109,6 @@ void try_edges(void)
     word_edges();
     fill_edges();
     panel_edges();
+    every_word();
     palette_edges();
 }

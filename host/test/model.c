@@ -370,6 +370,27 @@ linkshoar_accessed model_palette_read(linkshoar_palette state, const uint8_t *ta
     return r;
 }
 
+/* The entry that a word shows: its high byte; under 0 its low byte; under 255 its low byte, each bit the other way; then the pixel mask. */
+static unsigned entry_of(unsigned word, unsigned mask)
+{
+    unsigned high = word / 256, low = word % 256, reverse = 0;
+    for (int b = 0; b < 8; b++)
+        if (!bit(low, b))
+            reverse += 1u << b;
+#if FAULT == 21 /* 255 shown as a mark: the rule before M-101 */
+    reverse = 255;
+#elif FAULT == 22 /* under 255 the low byte as it is */
+    reverse = low;
+#elif FAULT == 23 /* inverted after the pixel mask */
+    if (high == 255)
+        return 255 - (low & mask);
+#elif FAULT == 24 /* 254 in reverse too */
+    if (high == 254)
+        high = 255;
+#endif
+    return (high == 0 ? low : high == 255 ? reverse : high) & mask;
+}
+
 linkshoar_shown model_panel_run(linkshoar_vram state, const uint16_t *serial, size_t serial_words, linkshoar_palette palette,
                                 const uint8_t *table, size_t table_bytes, uint32_t clocks, uint32_t blank, uint8_t *out, size_t out_bytes)
 {
@@ -390,7 +411,7 @@ linkshoar_shown model_panel_run(linkshoar_vram state, const uint16_t *serial, si
         return r;
     for (uint32_t i = 0; i < clocks; i++) {
         unsigned word = serial[r.state.pointer];
-        unsigned entry = (word / 256 ? word / 256 : word % 256) & palette.mask;
+        unsigned entry = entry_of(word, palette.mask);
         for (int part = 0; part < 3; part++)
             out[3 * i + (uint32_t)part] = blank ? 0 : table[3 * entry + (unsigned)part] % 64;
         clock_once(&r.state);

@@ -4,7 +4,9 @@
 pub mod Panel
 -- what a run answers and leaves
 pub mod Calls
--- of what a run shows
+-- of the rule of pixels: the mark, the result, the result in reverse
+pub mod PixelLaws
+-- of what a run shows, whatever the rules
 pub mod PanelLaws
 -- what is accepted; the ways out of the call
 pub mod CallLaws

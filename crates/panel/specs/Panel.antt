@@ -1,10 +1,11 @@
--- What a run shows: document 01, "A run to the panel". Assumes nothing.
+-- What a run shows: document 01, "A run to the panel", with reverse video by change request M-101. Assumes nothing.
 use Prim.Native.Nat.{ℕ, _*_, _%_}
-use mathlib.Core.Bool.{cond}
+use mathlib.Core.Bool.{not, cond}
 use mathlib.Core.List.{List, [], _∷_}
 use lib.Dec.{eqb}
 use lib.Bits.{bitAnd}
 use lib.ListN.{replicate}
+use Rattle.words.specs.Bit.{bit, ofBits}
 use Rattle.words.specs.Word.{high}
 use Rattle.vram.specs.declared.Vram.{Vram}
 use Rattle.vram.specs.Serial.{clockedWords}
@@ -12,9 +13,13 @@ use Rattle.palette.specs.Table.{Colour, colour, gives}
 
 -- ---- the two rules of a panel
 
--- a word's pixel is its high byte, or its low byte where the high byte is 0
+-- a byte with all eight bits inverted
+unfoldable pub inverted : ℕ → ℕ
+inverted byte = ofBits 8 (λ b. not (bit byte b))
+
+-- a word's pixel: its low byte where the high byte is 0, its low byte inverted where the high byte is 255, and else its high byte
 unfoldable pub pixel : ℕ → ℕ
-pixel word = cond (eqb (high word) 0) (word % 256) (high word)
+pixel word = cond (eqb (high word) 0) (word % 256) (cond (eqb (high word) 255) (inverted (word % 256)) (high word))
 
 -- a six-bit part is shown as it is
 unfoldable pub part : ℕ → ℕ

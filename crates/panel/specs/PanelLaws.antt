@@ -2,40 +2,23 @@
 use mathlib.Core.Path.{_≡_, refl, sym, ap, _∙_}
 use mathlib.Core.Bool.{Bool, true, false, cond}
 use mathlib.Core.List.{List, [], _∷_, _++_, append-assoc}
-use mathlib.Core.Logic.{_≢_}
-use Prim.Native.Nat.{ℕ, zero, suc, _+_, _*_, _/_, _%_, _≤_, _<_}
+use Prim.Native.Nat.{ℕ, zero, suc, _+_, _*_, _≤_, _<_}
 use native.Mathlib.Omega.{arith}
 use native.Mathlib.Nat.{zero-add}
 use native.Mathlib.Numerals.{add-one}
 use lib.Dec.{eqb}
 use lib.ListN.{length, getD, set, take, drop, length-append, length-take, length-replicate}
 use lib.Seq.{take-suc, drop-cons, drop-drop, set-at, take-at, drop-at}
-use borrow.Author.Tests.{eq-eqb, ne-eqb}
-use Rattle.words.specs.WordLaws.{high-is}
 use Rattle.vram.specs.declared.Vram.{Vram}
 use Rattle.vram.specs.Serial.{clocks, clockedWords}
 use Rattle.vram.specs.SerialLaws.{clockedWords-none, clockedWords-add, clockedWords-length}
 use Rattle.palette.specs.Table.{Colour, store}
-use Rattle.panel.specs.Panel.{pixel, Panel, colourOf, bytesOf, shown, zeros, runBytes}
+use Rattle.panel.specs.Panel.{Panel, colourOf, bytesOf, shown, zeros, runBytes}
 use Rattle.numbers.specs.Buffer.{over}
 use Rattle.numbers.specs.BufferLaws.{over-length}
 
 abbrev pub bytes : Colour → List ℕ
 bytes c = c .red ∷ c .green ∷ c .blue ∷ []
-
--- ---- a word's pixel
-
--- the result, where there is no mark
-pub pixel-low : (word : ℕ) → word / 256 ≡ 0 → pixel word ≡ word
-unfolding pixel
-pixel-low word h =
-    let e : word % 256 ≡ word = omega arith in
-    rw (high-is word, eq-eqb (word / 256) 0 h) e
-
--- the mark, whatever the result
-pub pixel-high : (word : ℕ) → word / 256 ≢ 0 → pixel word ≡ word / 256
-unfolding pixel
-pixel-high word h = rw (high-is word, ne-eqb (word / 256) 0 h)
 
 -- ---- three bytes a word
 

@@ -7,10 +7,14 @@ ghost use Rattle.palette.specs.Table.{store};
 ghost use Rattle.panel.specs.Panel.{pixel, part, panelOf, colourOf, bytesOf};
 ghost use Rattle.numbers.specs.Buffer.{over};
 
-// A word's pixel: its high byte, or, where that is 0, the word, which is then its low byte. Kept in 16 bits: one instruction less a pixel.
+// A word's pixel: its high byte; where that is 0 the word, which is then its low byte; where that is 255 the word inverted, which is then
+// its low byte inverted. Kept in 16 bits: one instruction less a pixel. 255 is told by the word: the compiler then chooses without a jump.
 fn pixel(word: u16) -> u16
     ensures { λ r. ⌜ (r ≡ pixel word) × (r < 256) ⌝ }
 {
+    if word >= 0xFF00 {
+        return !word;
+    }
     let high = word / 256;
     if high == 0 { word } else { high }
 }
