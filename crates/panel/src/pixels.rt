@@ -1,6 +1,6 @@
 // From a word to the three bytes that show it.
 ghost use mathlib.Core.Path.{_≡_};
-ghost use Prim.Native.Nat.{_+_, _*_, _≤_, _<_};
+ghost use Prim.Native.Nat.{_+_, _*_, _/_, _%_, _≤_, _<_};
 ghost use lib.Bits.{bitAnd};
 ghost use lib.ListN.{length};
 ghost use Rattle.palette.specs.Table.{store};
@@ -35,14 +35,23 @@ fn place(word: u16, mask: u8) -> usize
     3 * ((byte & wide) as usize)
 }
 
+// The low six bits of red and of green, as one number: the compiler takes one load, one AND and one store for both.
+fn two_parts(red: u8, green: u8) -> u16
+    ensures { λ r. ⌜ (r % 256 ≡ red % 64) × (r / 256 ≡ green % 64) ⌝ }
+{
+    let both = (red as u16) + 256 * (green as u16);
+    both & 0x3F3F
+}
+
 // The i-th three bytes of the buffer take the colour that a word shows.
 fn show_word(word: u16, mask: u8, table: &[u8], out: &mut [u8], i: usize)
     requires { ⌜ (length (now table) ≡ 768) × (3 * i + 3 ≤ length (now out)) ⌝ }
     ensures { λ r. ⌜ now (out .exit) ≡ store (now (out .entry)) i (colourOf (panelOf mask (now (table .entry))) word) ⌝ }
 {
     let at = place(word, mask);
-    out[3 * i] = part(table[at] % 64);
-    out[3 * i + 1] = part(table[at + 1] % 64);
+    let two = two_parts(table[at], table[at + 1]);
+    out[3 * i] = part((two % 256) as u8);
+    out[3 * i + 1] = part((two / 256) as u8);
     out[3 * i + 2] = part(table[at + 2] % 64);
 }
 
