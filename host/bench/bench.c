@@ -44,7 +44,7 @@ static void make_all(void)
     }
     linkshoar_fill(512, 0, 512, 0, 512, 0xFFFF, 0x1234, 0, screen, sizeof screen);
     for (unsigned i = 0; i < 256; i++)
-        serial[i] = (uint16_t)(i % 3 ? 256 * i + 1 : i);
+        serial[i] = (uint16_t)(i % 3 == 0 ? i : i % 3 == 1 ? 256 * i + 1 : 0xFF00 + i); /* results, marks, results in reverse */
     for (unsigned i = 0; i < 768; i++)
         table[i] = (uint8_t)(i * 5);
 }

@@ -271,9 +271,9 @@ static void show(uint8_t *out, const uint16_t *word, uint32_t n, uint16_t mask, 
 {
     uint16_t entry[128];
     for (uint32_t i = 0; i < n; i++) {
-        int16_t high = (int16_t)word[i] >> 8; /* with its sign: 0 stays 0, 255 is all ones */
-        uint16_t low = (uint16_t)(word[i] ^ high); /* under these two, the low byte as it is or inverted; else it is over 255 */
-        entry[i] = (uint16_t)((low < 256 && (FAULT != 8 || high == 0) ? low : high) & (FAULT == 4 ? 255 : mask));
+        int16_t high = (int16_t)word[i] >> 8; /* gcc keeps bits and sign: 0 stays 0, 255 is all ones */
+        uint16_t folded = (uint16_t)(word[i] ^ high); /* under these two the low byte as it is, or inverted; else over 255 */
+        entry[i] = (uint16_t)((folded < 256 && (FAULT != 8 || high == 0) ? folded : high) & (FAULT == 4 ? 255 : mask));
     }
     uint32_t i = 0;
     for (; i + 4 < n; i += 4, out += 12) {

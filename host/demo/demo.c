@@ -12,7 +12,7 @@
 
 enum { ROWS = 320, COLUMNS = LINKSHOAR_COLUMNS };
 enum { HIV = 64, HBS = 100, HCV = 136, SYPHILIS = 172, CMV = 208, LEGEND = 272 }; /* the lines, by their first row */
-enum { VALUE = 300 };                                                             /* the column where a value begins */
+enum { CELL = 292, VALUE = 300 };                                                 /* the columns where a value's cell and its letters begin */
 enum { DARK = 0, AMBER = 1, GREEN = 2, LABEL = 3, RESULT = 4, TITLE = 5, LINE = 6 }; /* palette entries */
 
 static uint16_t memory[ROWS * COLUMNS], serial[LINKSHOAR_SERIAL_WORDS];
@@ -40,15 +40,31 @@ static void fill(uint32_t row, uint32_t column, uint32_t height, uint32_t width,
     fills++, cycles += plan.cycles, words_alone += (unsigned long)height * width;
 }
 
-/* A result's colour goes to the low byte, a mark to the high byte. */
+/* A result's colour goes to the low byte, a mark or what is to show of the result to the high byte. */
 static void paint(uint32_t row, uint32_t column, uint32_t height, uint32_t width, uint8_t entry)
 {
     fill(row, column, height, width, 0x00FF, entry);
 }
 
-static void mark(uint32_t row, uint32_t column, uint32_t height, uint32_t width, uint8_t entry)
+static void high_bytes(uint32_t row, uint32_t column, uint32_t width, uint8_t value)
 {
-    fill(row, column, height, width, 0xFF00, (uint16_t)(entry << 8));
+    fill(row, column, 22, width, 0xFF00, (uint16_t)(value << 8));
+}
+
+static void mark(uint32_t row, uint32_t column, uint8_t entry)
+{
+    high_bytes(row, column, 22, entry);
+}
+
+/* A cell of eight letters, which carries no mark: one fill, and the results below stay. */
+static void reverse(uint32_t row, uint32_t column)
+{
+    high_bytes(row, column, 110, LINKSHOAR_HIGH_REVERSE);
+}
+
+static void upright(uint32_t row, uint32_t column)
+{
+    high_bytes(row, column, 110, LINKSHOAR_HIGH_RESULT);
 }
 
 /* Text of 10 by 14 words a letter: each lit stretch of a letter's row is one fill. */
@@ -70,16 +86,10 @@ static void text(uint32_t row, uint32_t column, const char *letters, uint8_t ent
 
 static void result(uint32_t row, const char *label, const char *value, uint8_t status)
 {
-    mark(row, 24, 22, 22, status);
+    mark(row, 24, status);
     text(row + 4, 64, label, LABEL);
     text(row + 4, VALUE, value, RESULT);
     paint(row + 29, 24, 1, 464, LINE);
-}
-
-/* Eight letters or fewer in reverse video, by one fill of the high bytes: the low bytes, the old result, stay. With 0 it ends. */
-static void reverse(uint32_t row, uint32_t column, uint8_t high)
-{
-    mark(row, column - 8, 22, 110, high);
 }
 
 static void page(void)
@@ -93,21 +103,22 @@ static void page(void)
     result(HCV, "HCV AB", "POS 3.71", AMBER);
     result(SYPHILIS, "SYPHILIS", "NEG 0.21", GREEN);
     result(CMV, "CMV AB", "NEG 0.35", AMBER);
-    mark(LEGEND, 24, 22, 22, AMBER);
+    mark(LEGEND, 24, AMBER);
     text(LEGEND + 4, 58, "PRELIMINARY", LABEL);
-    mark(LEGEND, 226, 22, 22, GREEN);
+    mark(LEGEND, 226, GREEN);
     text(LEGEND + 4, 260, "FINAL", LABEL);
     text(LEGEND + 4, 392, "RECHECK", RESULT);
-    reverse(LEGEND, 386, LINKSHOAR_HIGH_REVERSE);
+    reverse(LEGEND, 378);
 }
 
-/* The rerun of a preliminary result has come: its whole line cleared and painted anew through mask 00FF, mark and all, and upright again. */
+/* The rerun of a preliminary result has come: its whole line, the mark's words too, is cleared and painted anew through mask 00FF, which
+ * leaves the mark; then its value stands upright again. */
 static void rerun(void)
 {
     paint(HCV, 24, 22, 464, DARK);
     text(HCV + 4, 64, "HCV AB", LABEL);
     text(HCV + 4, VALUE, "POS 3.68", RESULT);
-    reverse(HCV, VALUE, LINKSHOAR_HIGH_RESULT);
+    upright(HCV, CELL);
 }
 
 /* ---- the palette, by its accesses */
@@ -135,7 +146,7 @@ static void colour(linkshoar_palette *palette, uint8_t entry, uint8_t red, uint8
     put(palette, LINKSHOAR_SELECT_COLOUR, blue);
 }
 
-/* Reverse video shows entry 255 - e for e: for two entries, the colours exchanged. */
+/* Reverse video shows entry 255 - e for e: for two entries, the same two colours, exchanged. */
 static void colours_in_reverse(linkshoar_palette *palette, uint8_t one, uint8_t other)
 {
     const uint8_t *a = table + 3 * one, *b = table + 3 * other;
@@ -190,6 +201,28 @@ static void show(linkshoar_palette palette)
             for (size_t i = 0; i < sizeof out; i++) /* six bits to eight */
                 ((uint8_t *)picture[row])[sizeof out * half + i] = (uint8_t)(4 * out[i] + out[i] / 16);
         }
+}
+
+/* Whether of two values that begin alike, NEG, the first shows letters in the other's ground, and ground in the other's letters. */
+static int exchanged(uint32_t row, uint32_t other)
+{
+    const uint8_t *lit = picture[other + 4][VALUE], *ground = picture[other][VALUE];
+    for (uint32_t r = 0; r < 22; r++)
+        for (uint32_t c = VALUE; c < VALUE + 36; c++)
+            if (memcmp(picture[row + r][c], memcmp(picture[other + r][c], lit, 3) ? lit : ground, 3))
+                return 0;
+    return memcmp(lit, ground, 3) != 0;
+}
+
+static const char *what_is_wrong(void)
+{
+    if (memory[HCV * COLUMNS + 24] >> 8 != AMBER || memory[CMV * COLUMNS + 24] >> 8 != AMBER)
+        return "a mark is lost";
+    if (memcmp(picture[HCV + 4][VALUE], picture[HIV + 4][VALUE], 3)) /* the corners of P and N, both lit */
+        return "the rerun is not upright";
+    if (!exchanged(CMV, HIV))
+        return "the old result is not legible";
+    return NULL;
 }
 
 /* ---- a PNG with nothing compressed */
@@ -268,20 +301,14 @@ int main(int argc, char **argv)
     colours_in_reverse(&palette, DARK, RESULT);
     survive_power_off(&palette);
     page();
-    reverse(HCV, VALUE, LINKSHOAR_HIGH_REVERSE);
-    reverse(CMV, VALUE, LINKSHOAR_HIGH_REVERSE);
+    reverse(HCV, CELL);
+    reverse(CMV, CELL);
     rerun();
     show(palette);
     write_picture(argc > 1 ? argv[1] : "page.png");
     printf("%lu fills, %lu cycles; word by word %lu\n", fills, cycles, words_alone);
-    if (memory[HCV * COLUMNS + 24] >> 8 != AMBER) {
-        printf("the mark is lost\n");
-        return 1;
-    }
-    uint16_t corner = memory[(CMV + 4) * COLUMNS + VALUE]; /* of the old result's first letter: there, and shown as dark as the page */
-    if (corner != (LINKSHOAR_HIGH_REVERSE << 8 | RESULT) || memcmp(picture[CMV + 4][VALUE], picture[HIV - 4][0], 3)) {
-        printf("the old result is not legible\n");
-        return 1;
-    }
-    return 0;
+    const char *wrong = what_is_wrong();
+    if (wrong)
+        printf("%s\n", wrong);
+    return wrong != NULL;
 }

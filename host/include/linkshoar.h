@@ -29,8 +29,8 @@
 extern "C" {
 #endif
 
-/* Since 4.4.0 a high byte of 255 is no mark: the panel shows the low byte inverted. A program whose marks show entry 255 takes another
- * entry for them; all others are only compiled and linked again.
+/* Since 4.4.0 a high byte of 255 is no mark: the panel shows the low byte inverted. A program that writes a high byte of 255, as a mark or
+ * in a fill of both bytes, takes another, 1 to 254, whatever its pixel mask.
  * Since 4.3.0 the two palette reads take the table, and after a read of blue the colour registers take the next entry and the address goes
  * up by one: a program that then reads the same entry again, writes colours or reads the address sets the address first. */
 #define LINKSHOAR_VERSION "4.4.0"
@@ -68,7 +68,7 @@ enum {
     LINKSHOAR_ADDRESSES = 262144    /* the Am8150's addresses: 18 bits */
 };
 
-/* The high bytes that are no mark: what the panel shows of a word then. Every other is a mark, and is shown itself. */
+/* The high bytes that are no mark: what the panel shows of a word then. Every other, 1 to 254, is a mark, and is shown whatever the low byte. */
 enum {
     LINKSHOAR_HIGH_RESULT = 0,   /* the low byte, the result */
     LINKSHOAR_HIGH_REVERSE = 255 /* the low byte with all eight bits inverted, the result in reverse */
@@ -333,7 +333,9 @@ linkshoar_clocked linkshoar_serial_clock(linkshoar_vram state, const uint16_t *s
  * least 3 * clocks. Refused with 1, 3, 10, 14, 15.
  *
  * Reverse video, for a recheck: a fill of the result's cell through mask FF00 with LINKSHOAR_HIGH_REVERSE * 256 leaves the result below as it
- * is and shows entry 255 - e for a result of e; with 0 it ends. So the entries 255 - e have the colours that e has in reverse.
+ * is, and a result of e shows as entry 255 - e, ANDed with the pixel mask; with 0 it ends. No colours are set by that: the caller gives those
+ * entries the colours that the results are to have in reverse. 255 stands where a mark would stand: a word in reverse has no mark, and 0
+ * afterwards brings none back. So only words that carry no mark are put in reverse.
  *
  * The serial register holds half a row, so a row is shown in two steps: a full transfer of half 0 with tap 0, run as a list, and a run of
  * 256 clocks; then the same with half 1. */

@@ -70,7 +70,7 @@ static void panel_edges(void)
     }
 }
 
-/* Every word that there is, those with one high byte in one register, through pixel masks that keep all of a pixel, nothing, and some bits. */
+/* All 65,536 words, 256 to a register by their high byte, through pixel masks that keep all bits, none and some. */
 static void every_word(void)
 {
     static const uint8_t masks[] = {255, 0, 1, 128, 0x0F, 0xF0, 0x55, 0xAA};

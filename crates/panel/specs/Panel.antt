@@ -11,11 +11,11 @@ use Rattle.vram.specs.declared.Vram.{Vram}
 use Rattle.vram.specs.Serial.{clockedWords}
 use Rattle.palette.specs.Table.{Colour, colour, gives}
 
--- ---- the two rules of a panel
-
 -- a byte with all eight bits inverted
 unfoldable pub inverted : ℕ → ℕ
 inverted byte = ofBits 8 (λ b. not (bit byte b))
+
+-- ---- the two rules of a panel
 
 -- a word's pixel: its low byte where the high byte is 0, its low byte inverted where the high byte is 255, and else its high byte
 unfoldable pub pixel : ℕ → ℕ
