@@ -40,7 +40,7 @@ static void fill(uint32_t row, uint32_t column, uint32_t height, uint32_t width,
     fills++, cycles += plan.cycles, words_alone += (unsigned long)height * width;
 }
 
-/* A result's colour goes to the low byte, a mark or what is to show of the result to the high byte. */
+/* A result's colour goes to the low byte. The high byte takes a mark, or says how the result is shown. */
 static void paint(uint32_t row, uint32_t column, uint32_t height, uint32_t width, uint8_t entry)
 {
     fill(row, column, height, width, 0x00FF, entry);
@@ -203,7 +203,7 @@ static void show(linkshoar_palette palette)
         }
 }
 
-/* Whether of two values that begin alike, NEG, the first shows letters in the other's ground, and ground in the other's letters. */
+/* Whether two values that begin with the same three letters show them with the colours of letters and ground exchanged. */
 static int exchanged(uint32_t row, uint32_t other)
 {
     const uint8_t *lit = picture[other + 4][VALUE], *ground = picture[other][VALUE];

@@ -29,8 +29,9 @@
 extern "C" {
 #endif
 
-/* Since 4.4.0 a high byte of 255 is no mark: the panel shows the low byte inverted. A program that writes a high byte of 255, as a mark or
- * in a fill of both bytes, takes another, 1 to 254, whatever its pixel mask.
+/* Since 4.4.0 a high byte of 255 is no mark: the panel shows the low byte inverted, whatever the pixel mask. A program whose words may have a
+ * high byte of 255 must change: a mark of 255 takes another high byte, 1 to 254, and the entry that this names takes the mark's colour; a
+ * program that fills both bytes with FFFF to show entry 255 fills them with 00FF.
  * Since 4.3.0 the two palette reads take the table, and after a read of blue the colour registers take the next entry and the address goes
  * up by one: a program that then reads the same entry again, writes colours or reads the address sets the address first. */
 #define LINKSHOAR_VERSION "4.4.0"
@@ -332,10 +333,11 @@ linkshoar_clocked linkshoar_serial_clock(linkshoar_vram state, const uint16_t *s
  * inverted, the result in reverse. The pixel ANDed with the pixel mask is the entry shown: FFFF shows entry 0. out_bytes: the room in out, at
  * least 3 * clocks. Refused with 1, 3, 10, 14, 15.
  *
- * Reverse video, for a recheck: a fill of the result's cell through mask FF00 with LINKSHOAR_HIGH_REVERSE * 256 leaves the result below as it
- * is, and a result of e shows as entry 255 - e, ANDed with the pixel mask; with 0 it ends. No colours are set by that: the caller gives those
- * entries the colours that the results are to have in reverse. 255 stands where a mark would stand: a word in reverse has no mark, and 0
- * afterwards brings none back. So only words that carry no mark are put in reverse.
+ * Reverse video, for a recheck: a fill of the result's cell through mask FF00 with the colour LINKSHOAR_HIGH_REVERSE * 256 leaves the low
+ * bytes, the result, as they are; the same fill with LINKSHOAR_HIGH_RESULT * 256 ends it. Meanwhile a result of e shows as entry 255 - e, ANDed
+ * with the pixel mask. The caller gives those entries the colours that the results are to have in reverse; a mark of 255 - e names the same
+ * entry. 255 stands where a mark would stand: a word in reverse has no mark, and 0 afterwards brings none back. So only words that carry no
+ * mark are put in reverse.
  *
  * The serial register holds half a row, so a row is shown in two steps: a full transfer of half 0 with tap 0, run as a list, and a run of
  * 256 clocks; then the same with half 1. */

@@ -84,20 +84,28 @@ module _ (mask : ℕ) (table : List ℕ) where
   pub all-ones : entryOf (panelOf mask table) 0xFFFF ≡ 0
   all-ones = entry-in-reverse 0xFFFF (high-is 0xFFFF) ∙ ap (λ (n : ℕ). bitAnd n mask) (inverted-is 255 (omega arith)) ∙ and-zero-l mask
 
-  -- the old result is still legible: results that show one entry in reverse show one entry upright too, whatever the pixel mask
-  pub still-legible : (v w : ℕ) → high v ≡ 255 → high w ≡ 255 → entryOf (panelOf mask table) v ≡ entryOf (panelOf mask table) w
-      → bitAnd (v % 256) mask ≡ bitAnd (w % 256) mask
-  still-legible v w e f g =
-      bits-eq 8 (bitAnd (v % 256) mask) (bitAnd (w % 256) mask) (small v) (small w)
+  -- an upright result names itself, masked
+  entry-upright : (word : ℕ) → entryOf (panelOf mask table) (word % 256) ≡ bitAnd (word % 256) mask
+  entry-upright word =
+      let e : pixel (word % 256) ≡ word % 256 = the-result (word % 256) (high-is (word % 256) ∙ (omega arith)) ∙ (omega arith) in
+      ap (λ (n : ℕ). bitAnd n mask) e
+
+  -- the old result is as legible as it was: results that name one entry in reverse name one entry upright too, whatever the pixel mask
+  pub as-legible : (v w : ℕ) → high v ≡ 255 → high w ≡ 255 → entryOf (panelOf mask table) v ≡ entryOf (panelOf mask table) w
+      → entryOf (panelOf mask table) (v % 256) ≡ entryOf (panelOf mask table) (w % 256)
+  as-legible v w e f g =
+      entry-upright v
+      ∙ bits-eq 8 (bitAnd (v % 256) mask) (bitAnd (w % 256) mask) (small v) (small w)
       (λ b h. bit-and (v % 256) mask b
-      ∙ either-way (bit (v % 256) b) (bit (w % 256) b) (bit mask b) (sym (shown v e b h) ∙ ap (λ (n : ℕ). bit n b) g ∙ shown w f b h)
+      ∙ either-way (bit (v % 256) b) (bit (w % 256) b) (bit mask b) (sym (bit-shown v e b h) ∙ ap (λ (n : ℕ). bit n b) g ∙ bit-shown w f b h)
       ∙ sym (bit-and (w % 256) mask b))
+      ∙ sym (entry-upright w)
     where
       small : (x : ℕ) → bitAnd (x % 256) mask < 2 ^ 8
       small x = lt-of-le-of-lt (and-le-l (x % 256) mask) (mod-lt x (omega arith))
 
-      shown : (x : ℕ) → high x ≡ 255 → (b : ℕ) → b < 8 → bit (entryOf (panelOf mask table) x) b ≡ (not (bit (x % 256) b) && bit mask b)
-      shown x z b h =
+      bit-shown : (x : ℕ) → high x ≡ 255 → (b : ℕ) → b < 8 → bit (entryOf (panelOf mask table) x) b ≡ (not (bit (x % 256) b) && bit mask b)
+      bit-shown x z b h =
           ap (λ (n : ℕ). bit n b) (entry-in-reverse x z)
           ∙ bit-and (inverted (x % 256)) mask b
           ∙ ap (λ (t : Bool). t && bit mask b) (inverted-bit (x % 256) b h)
