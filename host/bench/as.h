@@ -11,6 +11,7 @@
 #define linkshoar_list_run AS_JOIN(AS, list_run)
 #define linkshoar_serial_clock AS_JOIN(AS, serial_clock)
 #define linkshoar_panel_run AS_JOIN(AS, panel_run)
+#define linkshoar_panel_run_six AS_JOIN(AS, panel_run_six)
 #define linkshoar_palette_write AS_JOIN(AS, palette_write)
 #define linkshoar_palette_read AS_JOIN(AS, palette_read)
 #define linkshoar_works AS_JOIN(AS, works) /* works.h */
@@ -21,7 +22,7 @@
 /* FAULT plants one error in plain.c and in tuned.c, which the test program must find: 1 a block write keeps the low column bits, 2 a plain
  * write is accepted with a mask, 3 a waiting tap is not used up, 4 the pixel mask is ignored, 5 the palette's phase is kept across an
  * address write, 6 a read of blue takes no entry, 7 a fill goes by blocks where words are no more cycles, 8 a high byte of 255 is a
- * mark. */
+ * mark, 9 a part of eight bits has no sixteenth. */
 #ifndef FAULT
 #define FAULT 0
 #endif

@@ -163,9 +163,14 @@ static linkshoar_vram clocked(linkshoar_vram s)
     return s;
 }
 
-linkshoar_shown linkshoar_panel_run(linkshoar_vram state, const uint16_t *serial, size_t serial_words, linkshoar_palette palette,
-                                    const uint8_t *table, size_t table_bytes, uint32_t clocks, uint32_t blank, uint8_t *out,
-                                    size_t out_bytes)
+static uint8_t part(unsigned byte, int six)
+{
+    unsigned v = byte & 63;
+    return (uint8_t)(six ? v : 4 * v + (FAULT == 9 ? 0 : v / 16));
+}
+
+static linkshoar_shown run(int six, linkshoar_vram state, const uint16_t *serial, size_t serial_words, linkshoar_palette palette,
+                           const uint8_t *table, size_t table_bytes, uint32_t clocks, uint32_t blank, uint8_t *out, size_t out_bytes)
 {
     linkshoar_shown r = {state, 0};
     if (vram_bad(state) || palette_bad(palette))
@@ -192,7 +197,7 @@ linkshoar_shown linkshoar_panel_run(linkshoar_vram state, const uint16_t *serial
                 unsigned high = word[i] >> 8, low = word[i] & 255u;
                 unsigned pixel = high == 0 ? low : high == 255 && FAULT != 8 ? low ^ 255u : high;
                 const uint8_t *entry = table + 3 * (pixel & (FAULT == 4 ? 255 : palette.mask));
-                out[0] = entry[0] & 63, out[1] = entry[1] & 63, out[2] = entry[2] & 63;
+                out[0] = part(entry[0], six), out[1] = part(entry[1], six), out[2] = part(entry[2], six);
             }
         }
         r.state.pointer = (uint8_t)(r.state.pointer + n - 1);
@@ -200,6 +205,20 @@ linkshoar_shown linkshoar_panel_run(linkshoar_vram state, const uint16_t *serial
         left -= n;
     }
     return r;
+}
+
+linkshoar_shown linkshoar_panel_run(linkshoar_vram state, const uint16_t *serial, size_t serial_words, linkshoar_palette palette,
+                                    const uint8_t *table, size_t table_bytes, uint32_t clocks, uint32_t blank, uint8_t *out,
+                                    size_t out_bytes)
+{
+    return run(0, state, serial, serial_words, palette, table, table_bytes, clocks, blank, out, out_bytes);
+}
+
+linkshoar_shown linkshoar_panel_run_six(linkshoar_vram state, const uint16_t *serial, size_t serial_words, linkshoar_palette palette,
+                                        const uint8_t *table, size_t table_bytes, uint32_t clocks, uint32_t blank, uint8_t *out,
+                                        size_t out_bytes)
+{
+    return run(1, state, serial, serial_words, palette, table, table_bytes, clocks, blank, out, out_bytes);
 }
 
 linkshoar_clocked linkshoar_serial_clock(linkshoar_vram state, const uint16_t *serial, size_t serial_words)

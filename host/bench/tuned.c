@@ -287,9 +287,14 @@ static void show(uint8_t *out, const uint16_t *word, uint32_t n, uint16_t mask, 
     memcpy(out, shades + 3 * entry[i], 3);
 }
 
-linkshoar_shown linkshoar_panel_run(linkshoar_vram state, const uint16_t *serial, size_t serial_words, linkshoar_palette palette,
-                                    const uint8_t *table, size_t table_bytes, uint32_t clocks, uint32_t blank, uint8_t *out,
-                                    size_t out_bytes)
+static uint8_t part(unsigned byte, int six)
+{
+    unsigned v = byte & 63;
+    return (uint8_t)(six ? v : 4 * v + (FAULT == 9 ? 0 : v / 16));
+}
+
+static linkshoar_shown run(int six, linkshoar_vram state, const uint16_t *serial, size_t serial_words, linkshoar_palette palette,
+                           const uint8_t *table, size_t table_bytes, uint32_t clocks, uint32_t blank, uint8_t *out, size_t out_bytes)
 {
     linkshoar_shown r = {state, 0};
     if (vram_bad(state) || palette.phase > 2 || (palette.red | palette.green | palette.blue) > 63)
@@ -309,7 +314,7 @@ linkshoar_shown linkshoar_panel_run(linkshoar_vram state, const uint16_t *serial
         memset(out, 0, 3 * (size_t)clocks);
     else
         for (unsigned i = 0; i < 768; i++)
-            shades[i] = table[i] & 63;
+            shades[i] = part(table[i], six);
     shades[768] = 0;
     for (uint32_t left = clocks; left;) {
         uint32_t n = 128u - (r.state.pointer & 127u);
@@ -322,6 +327,20 @@ linkshoar_shown linkshoar_panel_run(linkshoar_vram state, const uint16_t *serial
         left -= n;
     }
     return r;
+}
+
+linkshoar_shown linkshoar_panel_run(linkshoar_vram state, const uint16_t *serial, size_t serial_words, linkshoar_palette palette,
+                                    const uint8_t *table, size_t table_bytes, uint32_t clocks, uint32_t blank, uint8_t *out,
+                                    size_t out_bytes)
+{
+    return run(0, state, serial, serial_words, palette, table, table_bytes, clocks, blank, out, out_bytes);
+}
+
+linkshoar_shown linkshoar_panel_run_six(linkshoar_vram state, const uint16_t *serial, size_t serial_words, linkshoar_palette palette,
+                                        const uint8_t *table, size_t table_bytes, uint32_t clocks, uint32_t blank, uint8_t *out,
+                                        size_t out_bytes)
+{
+    return run(1, state, serial, serial_words, palette, table, table_bytes, clocks, blank, out, out_bytes);
 }
 
 /* The registers from the lowest byte up: colour, mask (two each), persistent, loaded, pointer, waiting; then the tap, a spare byte, the

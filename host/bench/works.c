@@ -76,6 +76,12 @@ static void show_panel(void)
     run_panel(0);
 }
 
+static void show_panel_six(void)
+{
+    linkshoar_shown r = linkshoar_panel_run_six(ready(), serial, 256, linkshoar_palette_fresh(), table, 768, 512, 0, out, sizeof out);
+    sink += r.number + out[5];
+}
+
 static void blank_panel(void)
 {
     run_panel(1);
@@ -125,6 +131,7 @@ const work linkshoar_works[WORKS] = {
     {"planned block", plan_blocks, 1 + 512 * 128},
     {"planned word", plan_words, 1024},
     {"panel pixel shown", show_panel, 512},
+    {"panel pixel shown, six bits", show_panel_six, 512},
     {"panel pixel blanked", blank_panel, 512},
     {"serial clock", clock_serial, 1024},
     {"palette write", write_palette, 1024},

@@ -184,22 +184,20 @@ static void survive_power_off(linkshoar_palette *palette)
     }
 }
 
-/* ---- showing */
+/* ---- showing: the panel's bytes are the picture's, eight bits to a part */
 
 static void show(linkshoar_palette palette)
 {
-    uint8_t out[3 * LINKSHOAR_SERIAL_WORDS];
     for (uint16_t row = 0; row < ROWS; row++)
         for (uint8_t half = 0; half < 2; half++) {
             size_t bytes = linkshoar_put_full_transfer(list, row, half, 0);
             linkshoar_ran ran = linkshoar_list_run(state, memory, ROWS * COLUMNS, serial, LINKSHOAR_SERIAL_WORDS, list, bytes);
             must(ran.number, "transfer");
             linkshoar_shown shown = linkshoar_panel_run(ran.state, serial, LINKSHOAR_SERIAL_WORDS, palette, table, sizeof table,
-                                                        LINKSHOAR_SERIAL_WORDS, 0, out, sizeof out);
+                                                        LINKSHOAR_SERIAL_WORDS, 0, picture[row][half * LINKSHOAR_SERIAL_WORDS],
+                                                        3 * LINKSHOAR_SERIAL_WORDS);
             must(shown.number, "panel");
             state = shown.state;
-            for (size_t i = 0; i < sizeof out; i++) /* six bits to eight */
-                ((uint8_t *)picture[row])[sizeof out * half + i] = (uint8_t)(4 * out[i] + out[i] / 16);
         }
 }
 
@@ -216,12 +214,15 @@ static int exchanged(uint32_t row, uint32_t other)
 
 static const char *what_is_wrong(void)
 {
+    static const uint8_t result[3] = {247, 251, 255}; /* 61, 62, 63 in eight bits */
     if (memory[HCV * COLUMNS + 24] >> 8 != AMBER || memory[CMV * COLUMNS + 24] >> 8 != AMBER)
         return "a mark is lost";
     if (memcmp(picture[HCV + 4][VALUE], picture[HIV + 4][VALUE], 3)) /* the corners of P and N, both lit */
         return "the rerun is not upright";
     if (!exchanged(CMV, HIV))
         return "the old result is not legible";
+    if (memcmp(picture[HIV + 4][VALUE], result, 3))
+        return "a colour is not the palette's";
     return NULL;
 }
 

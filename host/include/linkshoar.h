@@ -29,12 +29,15 @@
 extern "C" {
 #endif
 
-/* Since 4.4.0 a high byte of 255 is no mark: the panel shows the low byte inverted, whatever the pixel mask. A program whose words may have a
+/* Since 4.5.0 linkshoar_panel_run writes parts of eight bits, 0 to 255: a six-bit part v is widened to 4 * v + v / 16. A program that takes the
+ * bytes as six bits, 0 to 63, for a panel of six bits or to widen them itself, must change: it calls linkshoar_panel_run_six, which takes the
+ * same and answers what linkshoar_panel_run answered before; or it takes the eight bits and widens no longer.
+ * Since 4.4.0 a high byte of 255 is no mark: the panel shows the low byte inverted, whatever the pixel mask. A program whose words may have a
  * high byte of 255 must change: a mark of 255 takes another high byte, 1 to 254, and the entry that this names takes the mark's colour; a
  * program that fills both bytes with FFFF to show entry 255 fills them with 00FF.
  * Since 4.3.0 the two palette reads take the table, and after a read of blue the colour registers take the next entry and the address goes
  * up by one: a program that then reads the same entry again, writes colours or reads the address sets the address first. */
-#define LINKSHOAR_VERSION "4.4.0"
+#define LINKSHOAR_VERSION "4.5.0"
 
 /* The numbers given back. Where several apply the lowest is given; in a list the first bad field wins, then its lowest number. */
 enum {
@@ -328,7 +331,9 @@ linkshoar_word linkshoar_word_read(const uint16_t *memory, size_t words, uint32_
  * or 255, to the waiting tap if there is one. Refused with 1, 3, 10. */
 linkshoar_clocked linkshoar_serial_clock(linkshoar_vram state, const uint16_t *serial, size_t serial_words);
 
-/* A run of 0 to 512 clocks to the panel: red, green, blue, 0 to 63, of each word at the start of out, zeros where blank is not 0. A word's
+/* A run of 0 to 512 clocks to the panel: red, green, blue of each word at the start of out, zeros where blank is not 0. linkshoar_panel_run
+ * writes eight bits for each, 0 to 255: the six bits v of the table as 4 * v + v / 16, so that 0 stays 0, 63 is 255, and the top six bits
+ * are v. linkshoar_panel_run_six writes the six bits themselves, 0 to 63; all else is the same. A word's
  * pixel is its high byte, the mark; but where that is 0 its low byte, the result, and where that is 255 its low byte with all eight bits
  * inverted, the result in reverse. The pixel ANDed with the pixel mask is the entry shown: FFFF shows entry 0. out_bytes: the room in out, at
  * least 3 * clocks. Refused with 1, 3, 10, 14, 15.
@@ -344,6 +349,9 @@ linkshoar_clocked linkshoar_serial_clock(linkshoar_vram state, const uint16_t *s
 linkshoar_shown linkshoar_panel_run(linkshoar_vram state, const uint16_t *serial, size_t serial_words, linkshoar_palette palette,
                                     const uint8_t *table, size_t table_bytes, uint32_t clocks, uint32_t blank, uint8_t *out,
                                     size_t out_bytes);
+linkshoar_shown linkshoar_panel_run_six(linkshoar_vram state, const uint16_t *serial, size_t serial_words, linkshoar_palette palette,
+                                        const uint8_t *table, size_t table_bytes, uint32_t clocks, uint32_t blank, uint8_t *out,
+                                        size_t out_bytes);
 
 /* Palette accesses; select: one of LINKSHOAR_SELECT_. An entry is set by its address to select 0, then red, green and blue to select 1; the
  * next three bytes set the next entry. An entry is read by its address to select 3, then three reads of select 1; the next three reads answer

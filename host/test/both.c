@@ -39,19 +39,36 @@ void both_serial_clock(linkshoar_vram state, size_t serial_words)
     same_words("the serial register of linkshoar_serial_clock", serial_a, serial_b, serial_words);
 }
 
+/* The two panel runs take the same and differ in what they write. */
+typedef linkshoar_shown panel_run(linkshoar_vram state, const uint16_t *serial, size_t serial_words, linkshoar_palette palette,
+                                  const uint8_t *table, size_t table_bytes, uint32_t clocks, uint32_t blank, uint8_t *out, size_t out_bytes);
+
+static void both_runs(const char *name, panel_run *ours, panel_run *theirs, linkshoar_vram state, size_t serial_words,
+                      linkshoar_palette palette, size_t table_bytes, uint32_t clocks, uint32_t blank, size_t room)
+{
+    linkshoar_shown a = ours(state, words_of(serial_a, serial_words), serial_words, palette, bytes_of(table_a, table_bytes), table_bytes,
+                             clocks, blank, bytes_of(bytes_a, room), room);
+    linkshoar_shown b = theirs(state, words_of(serial_b, serial_words), serial_words, palette, bytes_of(table_b, table_bytes), table_bytes,
+                               clocks, blank, bytes_of(bytes_b, room), room);
+    count(b.number);
+    if (!vram_same(a.state, b.state) || a.number != b.number)
+        differ(name);
+    same_bytes(name, bytes_a, bytes_b, room);
+    same_words(name, serial_a, serial_b, serial_words);
+    same_bytes(name, table_a, table_b, table_bytes);
+}
+
 void both_panel_run(linkshoar_vram state, size_t serial_words, linkshoar_palette palette, size_t table_bytes, uint32_t clocks,
                     uint32_t blank, size_t room)
 {
-    linkshoar_shown a = linkshoar_panel_run(state, words_of(serial_a, serial_words), serial_words, palette, bytes_of(table_a, table_bytes),
-                                            table_bytes, clocks, blank, bytes_of(bytes_a, room), room);
-    linkshoar_shown b = model_panel_run(state, words_of(serial_b, serial_words), serial_words, palette, bytes_of(table_b, table_bytes),
-                                        table_bytes, clocks, blank, bytes_of(bytes_b, room), room);
-    count(b.number);
-    if (!vram_same(a.state, b.state) || a.number != b.number)
-        differ("linkshoar_panel_run");
-    same_bytes("the bytes of linkshoar_panel_run", bytes_a, bytes_b, room);
-    same_words("the serial register of linkshoar_panel_run", serial_a, serial_b, serial_words);
-    same_bytes("the table of linkshoar_panel_run", table_a, table_b, table_bytes);
+    both_runs("linkshoar_panel_run", linkshoar_panel_run, model_panel_run, state, serial_words, palette, table_bytes, clocks, blank, room);
+}
+
+void both_panel_run_six(linkshoar_vram state, size_t serial_words, linkshoar_palette palette, size_t table_bytes, uint32_t clocks,
+                        uint32_t blank, size_t room)
+{
+    both_runs("linkshoar_panel_run_six", linkshoar_panel_run_six, model_panel_run_six, state, serial_words, palette, table_bytes, clocks,
+              blank, room);
 }
 
 void both_palette_write(linkshoar_palette state, size_t table_bytes, uint32_t select, uint8_t value)

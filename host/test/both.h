@@ -12,6 +12,8 @@ void both_word_read(size_t words, uint32_t row, uint32_t column, uint32_t strobe
 void both_serial_clock(linkshoar_vram state, size_t serial_words);
 void both_panel_run(linkshoar_vram state, size_t serial_words, linkshoar_palette palette, size_t table_bytes, uint32_t clocks,
                     uint32_t blank, size_t room);
+void both_panel_run_six(linkshoar_vram state, size_t serial_words, linkshoar_palette palette, size_t table_bytes, uint32_t clocks,
+                        uint32_t blank, size_t room);
 void both_palette_write(linkshoar_palette state, size_t table_bytes, uint32_t select, uint8_t value);
 void both_palette_read(linkshoar_palette state, size_t table_bytes, uint32_t select);
 linkshoar_palette both_palette_write_lent(linkshoar_palette state, size_t table_bytes, uint32_t select, uint8_t value); /* the new state */

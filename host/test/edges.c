@@ -64,8 +64,10 @@ static void panel_edges(void)
             for (int c = 0; c < 4; c++)
                 for (uint32_t blank = 0; blank < 2; blank++) {
                     const size_t full = 3 * clocks[c], rooms[] = {0, full ? full - 1 : 0, full, full + 1};
-                    EACH(room, rooms)
+                    EACH(room, rooms) {
                         both_panel_run(loaded(), serial, linkshoar_palette_fresh(), table, clocks[c], blank, room);
+                        both_panel_run_six(loaded(), serial, linkshoar_palette_fresh(), table, clocks[c], blank, room);
+                    }
                 }
     }
 }
@@ -89,6 +91,18 @@ static void every_word(void)
     }
 }
 
+/* All 256 bytes of a table as red, green and blue, at both widths: a step further for each, so that no two of an entry are alike. */
+static void every_part(void)
+{
+    for (unsigned e = 0; e < 256; e++) {
+        serial_a[e] = serial_b[e] = (uint16_t)e;
+        for (unsigned part = 0; part < 3; part++)
+            table_a[3 * e + part] = table_b[3 * e + part] = (uint8_t)(e + part);
+    }
+    both_panel_run(loaded(), 256, linkshoar_palette_fresh(), 768, 256, 0, 768);
+    both_panel_run_six(loaded(), 256, linkshoar_palette_fresh(), 768, 256, 0, 768);
+}
+
 static void palette_edges(void)
 {
     linkshoar_palette last = linkshoar_palette_fresh();
@@ -110,5 +124,6 @@ void try_edges(void)
     fill_edges();
     panel_edges();
     every_word();
+    every_part();
     palette_edges();
 }

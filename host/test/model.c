@@ -391,8 +391,30 @@ static unsigned entry_of(unsigned word, unsigned mask)
     return (high == 0 ? low : high == 255 ? reverse : high) & mask;
 }
 
-linkshoar_shown model_panel_run(linkshoar_vram state, const uint16_t *serial, size_t serial_words, linkshoar_palette palette,
-                                const uint8_t *table, size_t table_bytes, uint32_t clocks, uint32_t blank, uint8_t *out, size_t out_bytes)
+/* A byte of the table as the panel takes it: its low six bits, or eight bits that begin with these six and go on with the top two of them
+ * again. */
+static uint8_t part_of(unsigned byte, int bits)
+{
+    unsigned six = byte % 64, eight = 0;
+    for (int b = 0; b < 8; b++)
+        if (bit(six, (b + 4) % 6))
+            eight += 1u << b;
+#if FAULT == 25 /* four times the part, and no sixteenth: the brightest is 252 */
+    eight = 4 * six;
+#elif FAULT == 26 /* the sixteenth rounded up */
+    eight = 4 * six + (six + 15) / 16;
+#elif FAULT == 27 /* the run that names six bits widened too */
+    bits = 8;
+#elif FAULT == 28 /* the default left at six bits: the rule before M-108 */
+    bits = 6;
+#elif FAULT == 29 /* in proportion, 63 to 255 */
+    eight = 255 * six / 63;
+#endif
+    return (uint8_t)(bits == 6 ? six : eight);
+}
+
+static linkshoar_shown run(int bits, linkshoar_vram state, const uint16_t *serial, size_t serial_words, linkshoar_palette palette,
+                           const uint8_t *table, size_t table_bytes, uint32_t clocks, uint32_t blank, uint8_t *out, size_t out_bytes)
 {
     linkshoar_shown r;
     memset(&r, 0, sizeof r);
@@ -413,10 +435,22 @@ linkshoar_shown model_panel_run(linkshoar_vram state, const uint16_t *serial, si
         unsigned word = serial[r.state.pointer];
         unsigned entry = entry_of(word, palette.mask);
         for (int part = 0; part < 3; part++)
-            out[3 * i + (uint32_t)part] = blank ? 0 : table[3 * entry + (unsigned)part] % 64;
+            out[3 * i + (uint32_t)part] = blank ? 0 : part_of(table[3 * entry + (unsigned)part], bits);
         clock_once(&r.state);
     }
     return r;
+}
+
+linkshoar_shown model_panel_run(linkshoar_vram state, const uint16_t *serial, size_t serial_words, linkshoar_palette palette,
+                                const uint8_t *table, size_t table_bytes, uint32_t clocks, uint32_t blank, uint8_t *out, size_t out_bytes)
+{
+    return run(8, state, serial, serial_words, palette, table, table_bytes, clocks, blank, out, out_bytes);
+}
+
+linkshoar_shown model_panel_run_six(linkshoar_vram state, const uint16_t *serial, size_t serial_words, linkshoar_palette palette,
+                                    const uint8_t *table, size_t table_bytes, uint32_t clocks, uint32_t blank, uint8_t *out, size_t out_bytes)
+{
+    return run(6, state, serial, serial_words, palette, table, table_bytes, clocks, blank, out, out_bytes);
 }
 
 /* ---- fills */

@@ -1,6 +1,7 @@
 /* A second implementation of document 01, and of the change requests that have landed, in plain C, bit by bit, written from the rules and not
  * from the proved code. The test program compares the two. FAULT plants one error: 1 to 6 those that document 01 lists or that earlier
- * versions had, 7 to 17 the Am8150's, 18 to 20 those of a palette read, 21 to 24 those of reverse video. Each must be found. */
+ * versions had, 7 to 17 the Am8150's, 18 to 20 those of a palette read, 21 to 24 those of reverse video, 25 to 29
+ * those of parts of eight bits. Each must be found. */
 #ifndef MODEL_H
 #define MODEL_H
 
@@ -26,6 +27,8 @@ linkshoar_word model_word_read(const uint16_t *memory, size_t words, uint32_t ro
 linkshoar_clocked model_serial_clock(linkshoar_vram state, const uint16_t *serial, size_t serial_words);
 linkshoar_shown model_panel_run(linkshoar_vram state, const uint16_t *serial, size_t serial_words, linkshoar_palette palette,
                                 const uint8_t *table, size_t table_bytes, uint32_t clocks, uint32_t blank, uint8_t *out, size_t out_bytes);
+linkshoar_shown model_panel_run_six(linkshoar_vram state, const uint16_t *serial, size_t serial_words, linkshoar_palette palette,
+                                    const uint8_t *table, size_t table_bytes, uint32_t clocks, uint32_t blank, uint8_t *out, size_t out_bytes);
 linkshoar_accessed model_palette_write(linkshoar_palette state, uint8_t *table, size_t table_bytes, uint32_t select, uint8_t value);
 linkshoar_accessed model_palette_read(linkshoar_palette state, const uint8_t *table, size_t table_bytes, uint32_t select);
 

@@ -124,7 +124,7 @@ static void try_panel(void)
     some_words(serial_a, serial_b, 256);
     some_bytes(table_a, table_b, 768);
     some_bytes(bytes_a, bytes_b, MOST_OUT);
-    both_panel_run(s, serial, some_palette(), table, clocks, blank, room);
+    (chance(2) ? both_panel_run : both_panel_run_six)(s, serial, some_palette(), table, clocks, blank, room);
 }
 
 static void try_palette(void)

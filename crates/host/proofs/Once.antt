@@ -9,6 +9,7 @@ use Rattle.host.proofs.linkshoar_list_run as list-run
 use Rattle.host.proofs.linkshoar_word_read as word-read
 use Rattle.host.proofs.linkshoar_serial_clock as serial-clock
 use Rattle.host.proofs.linkshoar_panel_run as panel-run
+use Rattle.host.proofs.linkshoar_panel_run_six as panel-run-six
 use Rattle.host.proofs.linkshoar_palette_write as palette-write
 use Rattle.host.proofs.linkshoar_palette_read as palette-read
 
@@ -33,6 +34,9 @@ serial-clock-once = by-result refl (λ κs a v w. refl)
 
 pub panel-run-once : Determines panel-run.signature (λ M. panel-run.clauses)
 panel-run-once = by-outcome refl (λ κs a o. (o .answer, (tt, (tt, (tt, (tt, (tt, (tt, (o .buffer, tt))))))))) (λ κs a x. refl)
+
+pub panel-run-six-once : Determines panel-run-six.signature (λ M. panel-run-six.clauses)
+panel-run-six-once = by-outcome refl (λ κs a o. (o .answer, (tt, (tt, (tt, (tt, (tt, (tt, (o .buffer, tt))))))))) (λ κs a x. refl)
 
 pub palette-write-once : Determines palette-write.signature (λ M. palette-write.clauses)
 palette-write-once = by-outcome refl (λ κs a o. (o .answer, (tt, (o .table, (tt, (tt, tt)))))) (λ κs a x. refl)

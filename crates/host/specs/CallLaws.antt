@@ -14,13 +14,14 @@ use Rattle.palette.specs.declared.Palette.{Palette}
 use Rattle.list.specs.declared.Ran.{Ran as ListRan}
 use Rattle.list.specs.Meaning.{Outcome as ListOutcome, outcome, runCall}
 use Rattle.list.specs.CallLaws.{call-given, call-refuses}
-use Rattle.panel.specs.Calls.{Outcome as PanelOutcome, outcome as panelOutcome, runCall as panelRun}
+use Rattle.panel.specs.Calls.{Outcome as PanelOutcome, outcome as panelOutcome, runCallBy as panelRunBy}
 use Rattle.panel.specs.CallLaws.{run-number, run-refuses}
+use Rattle.panel.specs.WidthLaws.{same-answer}
 use Rattle.host.specs.declared.Registers.{Registers}
 use Rattle.host.specs.declared.Clocked.{Clocked}
 use Rattle.host.specs.State.{lawful, taken, handed}
 use Rattle.host.specs.StateLaws.{handed-taken, taken-handed, handed-lawful}
-use Rattle.host.specs.Calls.{Listed, listed, listAnswer, listCall, clockCall, ShownTo, shown, panelAnswer, panelCall}
+use Rattle.host.specs.Calls.{Listed, listed, listAnswer, listCall, clockCall, ShownTo, shown, panelAnswer, panelCallBy}
 
 -- ---- the two ways out of each call, by what the code has
 
@@ -34,10 +35,10 @@ module _ (s : Registers) where
     unfolding clockCall
     clock-excluded r = rw h
 
-    pub panel-excluded : (r : List ℕ) (p : Palette) (t : List ℕ) (clocks blank : ℕ) (out : List ℕ)
-        → shown (record { state = s; number = 1 }) out ≡ panelCall s r p t clocks blank out
-    unfolding panelCall
-    panel-excluded r p t clocks blank out = rw h
+    pub panel-excluded : (parts : ℕ → ℕ) (r : List ℕ) (p : Palette) (t : List ℕ) (clocks blank : ℕ) (out : List ℕ)
+        → shown (record { state = s; number = 1 }) out ≡ panelCallBy parts s r p t clocks blank out
+    unfolding panelCallBy
+    panel-excluded parts r p t clocks blank out = rw h
 
   module _ (h : lawful s ≡ true) (v : Vram) (e : v ≡ taken s) (given : Registers) where
     pub list-done : (m q list : List ℕ) (ran : ListRan) (m′ q′ : List ℕ) → outcome ran m′ q′ ≡ runCall list (board v m q) → given ≡ handed (ran .state)
@@ -59,13 +60,13 @@ module _ (s : Registers) where
         clocked : VramClocked → Registers → Clocked
         clocked x t = record { state = t; word = x .word; number = x .number }
 
-    pub panel-done : (r : List ℕ) (p : Palette) (t : List ℕ) (clocks blank : ℕ) (out : List ℕ) (a : Answered) (out′ : List ℕ)
-        → panelOutcome a out′ ≡ panelRun v r p t clocks blank out → given ≡ handed (a .state)
-        → shown (record { state = given; number = a .number }) out′ ≡ panelCall s r p t clocks blank out
-    unfolding panelCall
-    panel-done r p t clocks blank out a out′ f g =
+    pub panel-done : (parts : ℕ → ℕ) (r : List ℕ) (p : Palette) (t : List ℕ) (clocks blank : ℕ) (out : List ℕ) (a : Answered) (out′ : List ℕ)
+        → panelOutcome a out′ ≡ panelRunBy parts v r p t clocks blank out → given ≡ handed (a .state)
+        → shown (record { state = given; number = a .number }) out′ ≡ panelCallBy parts s r p t clocks blank out
+    unfolding panelCallBy
+    panel-done parts r p t clocks blank out a out′ f g =
         ap (λ (x : Registers). shown (record { state = x; number = a .number }) out′) g
-        ∙ ap panelAnswer (f ∙ ap (λ (x : Vram). panelRun x r p t clocks blank out) e)
+        ∙ ap panelAnswer (f ∙ ap (λ (x : Vram). panelRunBy parts x r p t clocks blank out) e)
         ∙ sym (rw h)
 
 -- ---- a refusal hands the state back as it came, also where no `Vram` can be so, and changes nothing lent
@@ -116,23 +117,40 @@ module _ (s : Registers) where
           ap (λ (c : VramClocked). clocked (handed (c .state)) (c .word) (c .number)) (clock-refuses (taken s) r n)
           ∙ ap (λ (t : Registers). clocked t 0 (below .number)) (handed-taken s e)
 
-  pub panel-refused : (r : List ℕ) (p : Palette) (t : List ℕ) (clocks blank : ℕ) (out : List ℕ)
-      → let o = panelCall s r p t clocks blank out in o .answer .number ≢ 0
+  pub panel-refused : (parts : ℕ → ℕ) (r : List ℕ) (p : Palette) (t : List ℕ) (clocks blank : ℕ) (out : List ℕ)
+      → let o = panelCallBy parts s r p t clocks blank out in o .answer .number ≢ 0
       → o ≡ shown (record { state = s; number = o .answer .number }) out
-  unfolding panelCall
-  panel-refused r p t clocks blank out =
+  unfolding panelCallBy
+  panel-refused parts r p t clocks blank out =
       either-way (λ (o : ShownTo). o .answer .number) (λ (o : ShownTo). back s (o .answer .number)) (panelAnswer ran) _ done refl
     where
       ran : PanelOutcome
-      ran = panelRun (taken s) r p t clocks blank out
+      ran = panelRunBy parts (taken s) r p t clocks blank out
 
       back : Registers → ℕ → ShownTo
       back u number = shown (record { state = u; number = number }) out
 
       done : lawful s ≡ true → ran .answer .number ≢ 0 → panelAnswer ran ≡ back s (ran .answer .number)
       done e n =
-          ap panelAnswer (sym (run-refuses (taken s) r p t clocks blank out (ran .answer .number) (run-number (taken s) r p t clocks blank out) n))
+          ap panelAnswer (sym (run-refuses parts (taken s) r p t clocks blank out (ran .answer .number) (run-number parts (taken s) r p t clocks blank out) n))
           ∙ ap (λ (u : Registers). back u (ran .answer .number)) (handed-taken s e)
+
+-- ---- both runs to the panel answer the same state and number
+
+pub panel-same : (parts others : ℕ → ℕ) (s : Registers) (r : List ℕ) (p : Palette) (t : List ℕ) (clocks blank : ℕ) (out : List ℕ)
+    → panelCallBy parts s r p t clocks blank out .answer ≡ panelCallBy others s r p t clocks blank out .answer
+unfolding panelCallBy
+panel-same parts others s r p t clocks blank out = go (lawful s)
+  where
+    run : (ℕ → ℕ) → PanelOutcome
+    run f = panelRunBy f (taken s) r p t clocks blank out
+
+    excluded : ShownTo
+    excluded = shown (record { state = s; number = 1 }) out
+
+    go : (b : Bool) → cond b (panelAnswer (run parts)) excluded .answer ≡ cond b (panelAnswer (run others)) excluded .answer
+    go true = ap (λ (a : Answered). panelAnswer (panelOutcome a out) .answer) (same-answer parts others (taken s) r p t clocks blank out)
+    go false = refl
 
 -- ---- a call on a state that was handed to C is the call below, so a session in C is the session below
 
@@ -145,7 +163,7 @@ module _ (v : Vram) where
   unfolding clockCall
   clock-handed r = rw (handed-lawful v, taken-handed v)
 
-  pub panel-handed : (r : List ℕ) (p : Palette) (t : List ℕ) (clocks blank : ℕ) (out : List ℕ)
-      → panelCall (handed v) r p t clocks blank out ≡ panelAnswer (panelRun v r p t clocks blank out)
-  unfolding panelCall
-  panel-handed r p t clocks blank out = rw (handed-lawful v, taken-handed v)
+  pub panel-handed : (parts : ℕ → ℕ) (r : List ℕ) (p : Palette) (t : List ℕ) (clocks blank : ℕ) (out : List ℕ)
+      → panelCallBy parts (handed v) r p t clocks blank out ≡ panelAnswer (panelRunBy parts v r p t clocks blank out)
+  unfolding panelCallBy
+  panel-handed parts r p t clocks blank out = rw (handed-lawful v, taken-handed v)

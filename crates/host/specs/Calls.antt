@@ -7,7 +7,8 @@ use Rattle.vram.specs.Board.{board}
 use Rattle.vram.specs.Calls.{clockCall as vramClock}
 use Rattle.palette.specs.declared.Palette.{Palette}
 use Rattle.list.specs.Meaning.{Outcome, runCall}
-use Rattle.panel.specs.Calls.{Outcome as PanelOutcome, runCall as panelRun}
+use Rattle.panel.specs.Panel.{widened, unwidened}
+use Rattle.panel.specs.Calls.{Outcome as PanelOutcome, runCallBy as panelRunBy}
 use Rattle.host.specs.declared.Registers.{Registers}
 use Rattle.host.specs.declared.Ran.{Ran}
 use Rattle.host.specs.declared.Shown.{Shown}
@@ -51,6 +52,15 @@ shown r out = record { answer = r; buffer = out }
 abbrev pub panelAnswer : PanelOutcome → ShownTo
 panelAnswer o = shown (record { state = handed (o .answer .state); number = o .answer .number }) (o .buffer)
 
-unfoldable pub panelCall : Registers → List ℕ → Palette → List ℕ → ℕ → ℕ → List ℕ → ShownTo
-panelCall s r p t clocks blank out =
-    cond (lawful s) (panelAnswer (panelRun (taken s) r p t clocks blank out)) (shown (record { state = s; number = 1 }) out)
+-- by any rule of parts
+unfoldable pub panelCallBy : (ℕ → ℕ) → Registers → List ℕ → Palette → List ℕ → ℕ → ℕ → List ℕ → ShownTo
+panelCallBy parts s r p t clocks blank out =
+    cond (lawful s) (panelAnswer (panelRunBy parts (taken s) r p t clocks blank out)) (shown (record { state = s; number = 1 }) out)
+
+-- the default: eight bits to a part
+abbrev pub panelCall : Registers → List ℕ → Palette → List ℕ → ℕ → ℕ → List ℕ → ShownTo
+panelCall = panelCallBy widened
+
+-- the run that names six bits
+abbrev pub panelSixCall : Registers → List ℕ → Palette → List ℕ → ℕ → ℕ → List ℕ → ShownTo
+panelSixCall = panelCallBy unwidened

@@ -6,16 +6,18 @@ ghost use Rattle.vram.specs.State.{fresh as freshVram};
 ghost use Rattle.vram.specs.Calls.{wordReadCall};
 ghost use Rattle.palette.specs.State.{fresh as freshPalette};
 ghost use Rattle.palette.specs.Calls.{outcome as accessedOutcome, writeCall, readCall};
+ghost use Rattle.panel.specs.Panel.{partAt};
 ghost use Rattle.planner.specs.Fill.{fill};
 ghost use Rattle.planner.specs.Calls.{outcome as filledOutcome, fillCall};
 ghost use Rattle.planner.specs.Paint.{listIn, Demanded};
 ghost use Rattle.host.specs.State.{handed};
-ghost use Rattle.host.specs.Calls.{listed, listCall, clockCall, shown, panelCall};
+ghost use Rattle.host.specs.Calls.{listed, listCall, clockCall, shown, panelCallBy, panelCall, panelSixCall};
 
 mod state;
 
 use palette::Accessed;
 use palette::Palette;
+use panel::Width;
 use planner::Filled;
 use state::hand;
 use state::lawful;
@@ -156,7 +158,42 @@ pub extern "C" fn linkshoar_serial_clock(state: Registers, serial: &[u16]) -> Cl
     }
 }
 
-// A run to the panel, shown, or blanked where blank is not 0.
+// A run to the panel, shown with parts of a width, or blanked where blank is not 0.
+fn panel_run(
+    width: Width,
+    state: Registers,
+    serial: &[u16],
+    palette: Palette,
+    table: &[u8],
+    clocks: u32,
+    blank: u32,
+    out: &mut [u8],
+) -> Shown
+    ensures { λ r. ⌜ shown r (now (out .exit)) ≡ panelCallBy (partAt width) state (now (serial .entry)) palette (now (table .entry)) clocks blank (now (out .entry)) ⌝ }
+{
+    if lawful(state) {
+        let answered = panel::run_at(
+            width,
+            take(state),
+            serial,
+            palette,
+            table,
+            clocks,
+            blank,
+            out,
+        );
+        return Shown {
+            state: hand(answered.state),
+            number: answered.number,
+        };
+    }
+    Shown {
+        state,
+        number: numbers::STATE_EXCLUDED,
+    }
+}
+
+// A run to the panel with parts of eight bits, the default.
 #[no_mangle]
 pub extern "C" fn linkshoar_panel_run(
     state: Registers,
@@ -169,17 +206,41 @@ pub extern "C" fn linkshoar_panel_run(
 ) -> Shown
     ensures { λ r. ⌜ shown r (now (out .exit)) ≡ panelCall state (now (serial .entry)) palette (now (table .entry)) clocks blank (now (out .entry)) ⌝ }
 {
-    if lawful(state) {
-        let answered = panel::run(take(state), serial, palette, table, clocks, blank, out);
-        return Shown {
-            state: hand(answered.state),
-            number: answered.number,
-        };
-    }
-    Shown {
+    panel_run(
+        Width::Eight,
         state,
-        number: numbers::STATE_EXCLUDED,
-    }
+        serial,
+        palette,
+        table,
+        clocks,
+        blank,
+        out,
+    )
+}
+
+// A run to the panel with parts of six bits.
+#[no_mangle]
+pub extern "C" fn linkshoar_panel_run_six(
+    state: Registers,
+    serial: &[u16],
+    palette: Palette,
+    table: &[u8],
+    clocks: u32,
+    blank: u32,
+    out: &mut [u8],
+) -> Shown
+    ensures { λ r. ⌜ shown r (now (out .exit)) ≡ panelSixCall state (now (serial .entry)) palette (now (table .entry)) clocks blank (now (out .entry)) ⌝ }
+{
+    panel_run(
+        Width::Six,
+        state,
+        serial,
+        palette,
+        table,
+        clocks,
+        blank,
+        out,
+    )
 }
 
 // A palette write. Any bytes that C hands over are a `Palette`, so its state needs no test here.

@@ -20,7 +20,7 @@ use Rattle.palette.specs.declared.Palette.{Palette}
 use Rattle.palette.specs.State.{ruled as paletteRuled}
 use Rattle.panel.specs.Panel.{panelOf, runBytes}
 use Rattle.numbers.specs.Buffer.{over}
-use Rattle.panel.specs.Calls.{runRefusal, outcome, runCall}
+use Rattle.panel.specs.Calls.{runRefusal, outcome, runCallBy}
 
 pub record Accepted (s : Vram) (p : Palette) (serial table k bytes : ℕ) : Type 0 where
   pub rule : ruled s ≡ true
@@ -54,16 +54,17 @@ pub run-accepted : (s : Vram) (p : Palette) (serial table k bytes : ℕ) → rul
 unfolding runRefusal
 run-accepted s p serial table k bytes a b c d e f = rw (a, b, eq-eqb serial 256 c, eq-eqb table 768 d, e, le-leb (3 * k) bytes f)
 
-module _ (s : Vram) (r : List ℕ) (p : Palette) (t : List ℕ) (k blank : ℕ) (out : List ℕ) (n : ℕ) (e : n ≡ runRefusal s p (length r) (length t) k (length out)) where
+module _ (parts : ℕ → ℕ) (s : Vram) (r : List ℕ) (p : Palette) (t : List ℕ) (k blank : ℕ) (out : List ℕ) (n : ℕ)
+    (e : n ≡ runRefusal s p (length r) (length t) k (length out)) where
   -- a refusal changes nothing
-  pub run-refuses : n ≢ 0 → outcome (answered n s) out ≡ runCall s r p t k blank out
-  unfolding runCall
+  pub run-refuses : n ≢ 0 → outcome (answered n s) out ≡ runCallBy parts s r p t k blank out
+  unfolding runCallBy
   run-refuses h =
-      rw (← e, leaves-before n s (clocks k s) h, leaves-before n out (over (runBytes (panelOf (p .mask) t) blank k s r) out) h)
+      rw (← e, leaves-before n s (clocks k s) h, leaves-before n out (over (runBytes (panelOf parts (p .mask) t) blank k s r) out) h)
 
-  pub run-acts : n ≡ 0 → (a : Moved) (out′ : List ℕ) → a ≡ clocksCall s k → out′ ≡ over (runBytes (panelOf (p .mask) t) blank k s r) out
-      → outcome (answered (a .number) (a .state)) out′ ≡ runCall s r p t k blank out
-  unfolding runCall
+  pub run-acts : n ≡ 0 → (a : Moved) (out′ : List ℕ) → a ≡ clocksCall s k → out′ ≡ over (runBytes (panelOf parts (p .mask) t) blank k s r) out
+      → outcome (answered (a .number) (a .state)) out′ ≡ runCallBy parts s r p t k blank out
+  unfolding runCallBy
   run-acts z a out′ f g =
       let m = run-zero s p (length r) (length t) k (length out) (sym e ∙ z) .moves in
       let i : a .number ≡ 0 = ap (λ (x : Moved). x .number) f ∙ clocks-number s k ∙ m in
@@ -71,13 +72,14 @@ module _ (s : Vram) (r : List ℕ) (p : Palette) (t : List ℕ) (k blank : ℕ) 
       rw (← e, z) (ap₂ outcome (ap₂ answered i j) g)
 
 -- the number that a run gives back
-pub run-number : (s : Vram) (r : List ℕ) (p : Palette) (t : List ℕ) (k blank : ℕ) (out : List ℕ)
-    → runCall s r p t k blank out .answer .number ≡ runRefusal s p (length r) (length t) k (length out)
-unfolding runCall
-run-number s r p t k blank out = refl
+pub run-number : (parts : ℕ → ℕ) (s : Vram) (r : List ℕ) (p : Palette) (t : List ℕ) (k blank : ℕ) (out : List ℕ)
+    → runCallBy parts s r p t k blank out .answer .number ≡ runRefusal s p (length r) (length t) k (length out)
+unfolding runCallBy
+run-number parts s r p t k blank out = refl
 
 -- what an accepted run answers and leaves
-pub run-made : (s : Vram) (r : List ℕ) (p : Palette) (t : List ℕ) (k blank : ℕ) (out : List ℕ) → runRefusal s p (length r) (length t) k (length out) ≡ 0
-    → runCall s r p t k blank out ≡ outcome (answered 0 (clocks k s)) (over (runBytes (panelOf (p .mask) t) blank k s r) out)
-unfolding runCall
-run-made s r p t k blank out z = rw z
+pub run-made : (parts : ℕ → ℕ) (s : Vram) (r : List ℕ) (p : Palette) (t : List ℕ) (k blank : ℕ) (out : List ℕ)
+    → runRefusal s p (length r) (length t) k (length out) ≡ 0
+    → runCallBy parts s r p t k blank out ≡ outcome (answered 0 (clocks k s)) (over (runBytes (panelOf parts (p .mask) t) blank k s r) out)
+unfolding runCallBy
+run-made parts s r p t k blank out z = rw z

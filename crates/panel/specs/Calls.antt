@@ -13,7 +13,7 @@ use Rattle.vram.specs.Serial.{clocks}
 use Rattle.vram.specs.Calls.{answered, clocksRefusal}
 use Rattle.palette.specs.declared.Palette.{Palette}
 use Rattle.palette.specs.State.{ruled as paletteRuled}
-use Rattle.panel.specs.Panel.{panelOf, runBytes}
+use Rattle.panel.specs.Panel.{widened, unwidened, panelOf, runBytes}
 
 -- 1 and 3 for what is given, 10 and 14 as the clocks are refused, 15 for the buffer
 unfoldable pub runRefusal : Vram → Palette → ℕ → ℕ → ℕ → ℕ → ℕ
@@ -29,7 +29,16 @@ pub record Outcome : Type 0 where
 abbrev pub outcome : Answered → List ℕ → Outcome
 outcome r out = record { answer = r; buffer = out }
 
-unfoldable pub runCall : Vram → List ℕ → Palette → List ℕ → ℕ → ℕ → List ℕ → Outcome
-runCall s r p t k blank out =
+-- by any rule of parts
+unfoldable pub runCallBy : (ℕ → ℕ) → Vram → List ℕ → Palette → List ℕ → ℕ → ℕ → List ℕ → Outcome
+runCallBy parts s r p t k blank out =
     let n = runRefusal s p (length r) (length t) k (length out) in
-    outcome (answered n (leaves n s (clocks k s))) (leaves n out (over (runBytes (panelOf (p .mask) t) blank k s r) out))
+    outcome (answered n (leaves n s (clocks k s))) (leaves n out (over (runBytes (panelOf parts (p .mask) t) blank k s r) out))
+
+-- the default: eight bits to a part
+abbrev pub runCall : Vram → List ℕ → Palette → List ℕ → ℕ → ℕ → List ℕ → Outcome
+runCall = runCallBy widened
+
+-- the run that names six bits
+abbrev pub runSixCall : Vram → List ℕ → Palette → List ℕ → ℕ → ℕ → List ℕ → Outcome
+runSixCall = runCallBy unwidened

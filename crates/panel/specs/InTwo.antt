@@ -15,42 +15,42 @@ use Rattle.panel.specs.Panel.{panelOf, runBytes}
 use Rattle.panel.specs.PanelLaws.{runBytes-add, runBytes-length, over-more}
 use Rattle.numbers.specs.Buffer.{over}
 use Rattle.numbers.specs.BufferLaws.{over-length}
-use Rattle.panel.specs.Calls.{runRefusal, Outcome, outcome, runCall}
+use Rattle.panel.specs.Calls.{runRefusal, Outcome, outcome, runCallBy}
 use Rattle.panel.specs.CallLaws.{run-zero, run-accepted, run-made}
 
 -- where a run of j + k is not refused, neither is the run of j, nor the run of k at the state and the bytes that the first leaves
-module _ (s : Vram) (places : Places s) (r : List ℕ) (p : Palette) (t : List ℕ) (j k blank : ℕ) (out : List ℕ)
+module _ (parts : ℕ → ℕ) (s : Vram) (places : Places s) (r : List ℕ) (p : Palette) (t : List ℕ) (j k blank : ℕ) (out : List ℕ)
     (z : runRefusal s p (length r) (length t) (j + k) (length out) ≡ 0) where
   abbrev first : Outcome
-  first = runCall s r p t j blank out
+  first = runCallBy parts s r p t j blank out
 
   abbrev second : Outcome
-  second = runCall (first .answer .state) r p t k blank (drop (3 * j) (first .buffer))
+  second = runCallBy parts (first .answer .state) r p t k blank (drop (3 * j) (first .buffer))
 
   pub first-accepted : runRefusal s p (length r) (length t) j (length out) ≡ 0
   first-accepted =
       let a = run-zero s p (length r) (length t) (j + k) (length out) z in
       run-accepted s p (length r) (length t) j (length out) (a .rule) (a .palette) (a .register) (a .entries) (clocks-fewer s j (j + k) (omega arith) (a .moves)) (omega (arith, a .room))
 
-  made : first ≡ outcome (answered 0 (clocks j s)) (over (runBytes (panelOf (p .mask) t) blank j s r) out)
-  made = run-made s r p t j blank out first-accepted
+  made : first ≡ outcome (answered 0 (clocks j s)) (over (runBytes (panelOf parts (p .mask) t) blank j s r) out)
+  made = run-made parts s r p t j blank out first-accepted
 
   pub second-accepted : runRefusal (first .answer .state) p (length r) (length t) k (length (drop (3 * j) (first .buffer))) ≡ 0
   second-accepted =
       let a = run-zero s p (length r) (length t) (j + k) (length out) z in
-      let q = panelOf (p .mask) t in
+      let q = panelOf parts (p .mask) t in
       let b : length (over (runBytes q blank j s r) out) ≡ length out = over-length (runBytes q blank j s r) out (omega (arith, runBytes-length q blank j s r, a .room)) in
       rw made
       (run-accepted (clocks j s) p (length r) (length t) k _ (clocks-ruled j s places (a .rule)) (a .palette) (a .register) (a .entries)
       (clocks-rest s j k places (a .moves)) (simp length-drop (omega (arith, b, a .room))))
 
-  pub run-in-two : runCall s r p t (j + k) blank out ≡ outcome (second .answer) (take (3 * j) (first .buffer) ++ second .buffer)
+  pub run-in-two : runCallBy parts s r p t (j + k) blank out ≡ outcome (second .answer) (take (3 * j) (first .buffer) ++ second .buffer)
   run-in-two =
-      let q = panelOf (p .mask) t in
+      let q = panelOf parts (p .mask) t in
       let e : first .answer .state ≡ clocks j s = ap (λ (o : Outcome). o .answer .state) made in
       let b : first .buffer ≡ over (runBytes q blank j s r) out = ap (λ (o : Outcome). o .buffer) made in
-      let g = run-made (first .answer .state) r p t k blank (drop (3 * j) (first .buffer)) second-accepted in
-      run-made s r p t (j + k) blank out z
+      let g = run-made parts (first .answer .state) r p t k blank (drop (3 * j) (first .buffer)) second-accepted in
+      run-made parts s r p t (j + k) blank out z
       ∙ ap₂ outcome (ap (answered 0) (clocks-add j k s))
       (ap (λ (l : List ℕ). over l out) (runBytes-add q blank j k s r)
       ∙ over-more (runBytes q blank j s r) (runBytes q blank k (clocks j s) r) out (3 * j) (runBytes-length q blank j s r)

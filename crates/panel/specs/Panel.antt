@@ -1,5 +1,6 @@
--- What a run shows: document 01, "A run to the panel", with reverse video by change request M-101. Assumes nothing.
-use Prim.Native.Nat.{ℕ, _*_, _%_}
+-- What a run shows: document 01, "A run to the panel", with reverse video by change request M-101 and parts of eight bits by M-108. Assumes
+-- nothing.
+use Prim.Native.Nat.{ℕ, _+_, _*_, _/_, _%_}
 use mathlib.Core.Bool.{not, cond}
 use mathlib.Core.List.{List, [], _∷_}
 use lib.Dec.{eqb}
@@ -10,20 +11,31 @@ use Rattle.words.specs.Word.{high}
 use Rattle.vram.specs.declared.Vram.{Vram}
 use Rattle.vram.specs.Serial.{clockedWords}
 use Rattle.palette.specs.Table.{Colour, colour, gives}
+use Rattle.panel.specs.declared.Width.{Width}
+use Rattle.panel.specs.declared.Width.the-variants.{Six, Eight}
 
 -- a byte with all eight bits inverted
 unfoldable pub inverted : ℕ → ℕ
 inverted byte = ofBits 8 (λ b. not (bit byte b))
 
--- ---- the two rules of a panel
+-- ---- the rules of a panel
 
 -- a word's pixel: its low byte where the high byte is 0, its low byte inverted where the high byte is 255, and else its high byte
 unfoldable pub pixel : ℕ → ℕ
 pixel word = cond (eqb (high word) 0) (word % 256) (cond (eqb (high word) 255) (inverted (word % 256)) (high word))
 
--- a six-bit part is shown as it is
-unfoldable pub part : ℕ → ℕ
-part six = six
+-- a six-bit part in eight bits
+unfoldable pub widened : ℕ → ℕ
+widened six = 4 * six + six / 16
+
+-- a six-bit part as it is
+unfoldable pub unwidened : ℕ → ℕ
+unwidened six = six
+
+-- the rule of parts, by their width on the panel
+unfoldable pub partAt : Width → ℕ → ℕ
+partAt Six = unwidened
+partAt Eight = widened
 
 -- ---- a panel: which pixel a word shows, what a six-bit part becomes, the pixel mask and the table
 
@@ -33,8 +45,9 @@ pub record Panel : Type 0 where
   pub mask : ℕ
   pub table : List ℕ
 
-abbrev pub panelOf : ℕ → List ℕ → Panel
-panelOf mask table = record { pixelOf = pixel; partOf = part; mask = mask; table = table }
+-- ours, by its rule of parts
+abbrev pub panelOf : (ℕ → ℕ) → ℕ → List ℕ → Panel
+panelOf parts mask table = record { pixelOf = pixel; partOf = parts; mask = mask; table = table }
 
 -- the pixel, ANDed with the pixel mask, names the entry shown
 abbrev pub entryOf : Panel → ℕ → ℕ

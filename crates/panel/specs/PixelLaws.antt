@@ -24,9 +24,9 @@ unfolding pixel inverted high bit ofBits
 pixel-example = refl
 
 -- through a pixel mask of 0F: the mark 80 becomes 0 and does not fall to its result, and FFFF shows entry 0
-pub entry-example : map (entryOf (panelOf 0x0F [])) eight ≡ 0x0 ∷ 0x5 ∷ 0x1 ∷ 0x0 ∷ 0xE ∷ 0xF ∷ 0xA ∷ 0x0 ∷ []
+pub entry-example : (parts : ℕ → ℕ) → map (entryOf (panelOf parts 0x0F [])) eight ≡ 0x0 ∷ 0x5 ∷ 0x1 ∷ 0x0 ∷ 0xE ∷ 0xF ∷ 0xA ∷ 0x0 ∷ []
 unfolding pixel inverted high bit ofBits
-entry-example = refl
+entry-example parts = refl
 
 -- ---- a byte inverted
 
@@ -75,24 +75,24 @@ either-way true false false e = refl
 either-way false true true e = sym e
 either-way false true false e = refl
 
-module _ (mask : ℕ) (table : List ℕ) where
+module _ (parts : ℕ → ℕ) (mask : ℕ) (table : List ℕ) where
   -- inverted first, and masked then
-  pub entry-in-reverse : (word : ℕ) → high word ≡ 255 → entryOf (panelOf mask table) word ≡ bitAnd (inverted (word % 256)) mask
+  pub entry-in-reverse : (word : ℕ) → high word ≡ 255 → entryOf (panelOf parts mask table) word ≡ bitAnd (inverted (word % 256)) mask
   entry-in-reverse word e = ap (λ (n : ℕ). bitAnd n mask) (the-result-in-reverse word e)
 
   -- so FFFF shows entry 0
-  pub all-ones : entryOf (panelOf mask table) 0xFFFF ≡ 0
+  pub all-ones : entryOf (panelOf parts mask table) 0xFFFF ≡ 0
   all-ones = entry-in-reverse 0xFFFF (high-is 0xFFFF) ∙ ap (λ (n : ℕ). bitAnd n mask) (inverted-is 255 (omega arith)) ∙ and-zero-l mask
 
   -- an upright result names itself, masked
-  entry-upright : (word : ℕ) → entryOf (panelOf mask table) (word % 256) ≡ bitAnd (word % 256) mask
+  entry-upright : (word : ℕ) → entryOf (panelOf parts mask table) (word % 256) ≡ bitAnd (word % 256) mask
   entry-upright word =
       let e : pixel (word % 256) ≡ word % 256 = the-result (word % 256) (high-is (word % 256) ∙ (omega arith)) ∙ (omega arith) in
       ap (λ (n : ℕ). bitAnd n mask) e
 
   -- the old result is as legible as it was: results that name one entry in reverse name one entry upright too, whatever the pixel mask
-  pub as-legible : (v w : ℕ) → high v ≡ 255 → high w ≡ 255 → entryOf (panelOf mask table) v ≡ entryOf (panelOf mask table) w
-      → entryOf (panelOf mask table) (v % 256) ≡ entryOf (panelOf mask table) (w % 256)
+  pub as-legible : (v w : ℕ) → high v ≡ 255 → high w ≡ 255 → entryOf (panelOf parts mask table) v ≡ entryOf (panelOf parts mask table) w
+      → entryOf (panelOf parts mask table) (v % 256) ≡ entryOf (panelOf parts mask table) (w % 256)
   as-legible v w e f g =
       entry-upright v
       ∙ bits-eq 8 (bitAnd (v % 256) mask) (bitAnd (w % 256) mask) (small v) (small w)
@@ -104,7 +104,7 @@ module _ (mask : ℕ) (table : List ℕ) where
       small : (x : ℕ) → bitAnd (x % 256) mask < 2 ^ 8
       small x = lt-of-le-of-lt (and-le-l (x % 256) mask) (mod-lt x (omega arith))
 
-      bit-shown : (x : ℕ) → high x ≡ 255 → (b : ℕ) → b < 8 → bit (entryOf (panelOf mask table) x) b ≡ (not (bit (x % 256) b) && bit mask b)
+      bit-shown : (x : ℕ) → high x ≡ 255 → (b : ℕ) → b < 8 → bit (entryOf (panelOf parts mask table) x) b ≡ (not (bit (x % 256) b) && bit mask b)
       bit-shown x z b h =
           ap (λ (n : ℕ). bit n b) (entry-in-reverse x z)
           ∙ bit-and (inverted (x % 256)) mask b

@@ -5,7 +5,8 @@
 // A run goes in stretches to the end of a partition, so that the inner loop has no test; the tap is used up and the pointer advanced in
 // `vram` alone.
 ghost use mathlib.Core.Path.{_≡_};
-ghost use Rattle.panel.specs.Calls.{outcome, runRefusal, runCall};
+ghost use Rattle.panel.specs.Calls.{outcome, runRefusal, runCallBy, runCall, runSixCall};
+ghost use Rattle.panel.specs.Panel.{partAt};
 
 mod pixels;
 mod stretches;
@@ -42,7 +43,48 @@ fn refusal(
     refuse(state.ruled() & palette.ruled(), numbers::STATE_EXCLUDED, n)
 }
 
-// A run of some clocks, shown, or blanked where blank is not 0.
+// How many bits a part has on the panel: six as the palette holds them, or eight, widened.
+pub enum Width {
+    Six,
+    Eight,
+}
+
+// A run of some clocks, shown with parts of a width, or blanked where blank is not 0.
+pub fn run_at(
+    width: Width,
+    state: Vram,
+    serial: &[u16],
+    palette: Palette,
+    table: &[u8],
+    clocks: u32,
+    blank: u32,
+    out: &mut [u8],
+) -> Answered
+    ensures { λ r. ⌜ outcome r (now (out .exit)) ≡ runCallBy (partAt width) state (now (serial .entry)) palette (now (table .entry)) clocks blank (now (out .entry)) ⌝ }
+{
+    let n = refusal(state, palette, serial.len(), table.len(), clocks, out.len());
+    if n != numbers::DONE {
+        return Answered { state, number: n };
+    }
+    run_bytes(
+        state,
+        serial,
+        width,
+        palette.mask,
+        table,
+        clocks,
+        blank,
+        out,
+    );
+    let moved = state.clocks(clocks);
+    let after = moved.state;
+    Answered {
+        state: after,
+        number: moved.number,
+    }
+}
+
+// The default: parts of eight bits, 0 to 255.
 pub fn run(
     state: Vram,
     serial: &[u16],
@@ -54,15 +96,38 @@ pub fn run(
 ) -> Answered
     ensures { λ r. ⌜ outcome r (now (out .exit)) ≡ runCall state (now (serial .entry)) palette (now (table .entry)) clocks blank (now (out .entry)) ⌝ }
 {
-    let n = refusal(state, palette, serial.len(), table.len(), clocks, out.len());
-    if n != numbers::DONE {
-        return Answered { state, number: n };
-    }
-    run_bytes(state, serial, palette.mask, table, clocks, blank, out);
-    let moved = state.clocks(clocks);
-    let after = moved.state;
-    Answered {
-        state: after,
-        number: moved.number,
-    }
+    run_at(
+        Width::Eight,
+        state,
+        serial,
+        palette,
+        table,
+        clocks,
+        blank,
+        out,
+    )
+}
+
+// Parts of six bits, 0 to 63.
+pub fn run_six(
+    state: Vram,
+    serial: &[u16],
+    palette: Palette,
+    table: &[u8],
+    clocks: u32,
+    blank: u32,
+    out: &mut [u8],
+) -> Answered
+    ensures { λ r. ⌜ outcome r (now (out .exit)) ≡ runSixCall state (now (serial .entry)) palette (now (table .entry)) clocks blank (now (out .entry)) ⌝ }
+{
+    run_at(
+        Width::Six,
+        state,
+        serial,
+        palette,
+        table,
+        clocks,
+        blank,
+        out,
+    )
 }

@@ -5,8 +5,9 @@ ghost use Prim.Native.Nat.{_+_, _-_, _*_, _≤_, _<_, min};
 ghost use lib.ListN.{length, take, drop};
 ghost use Rattle.vram.specs.Serial.{clocks as movedBy, clockedWords};
 ghost use Rattle.vram.specs.Calls.{clocksRefusal};
-ghost use Rattle.panel.specs.Panel.{panelOf, bytesOf, shown, zeros, runBytes};
+ghost use Rattle.panel.specs.Panel.{partAt, panelOf, bytesOf, shown, zeros, runBytes};
 ghost use Rattle.numbers.specs.Buffer.{over};
+use crate::Width;
 use crate::pixels::show_words;
 use vram::Vram;
 
@@ -20,6 +21,7 @@ fn least(a: u32, b: u32) -> u32
 fn stretch(
     state: Vram,
     serial: &[u16],
+    width: Width,
     mask: u8,
     table: &[u8],
     clocks: u32,
@@ -27,25 +29,33 @@ fn stretch(
     done: u32,
 ) -> u32
     requires { ⌜ (clocksRefusal state clocks ≡ 0) × (length (now serial) ≡ 256) × (length (now table) ≡ 768) × (3 * clocks ≤ length (now out)) × (done < clocks) ⌝ }
-    ensures { λ r. ⌜ (done < r) × (r ≤ clocks) × (now (out .exit) ≡ take (3 * done) (now (out .entry)) ++ over (bytesOf (panelOf mask (now (table .entry))) (clockedWords (r - done) (movedBy done state) (now (serial .entry)))) (drop (3 * done) (now (out .entry)))) ⌝ }
+    ensures { λ r. ⌜ (done < r) × (r ≤ clocks) × (now (out .exit) ≡ take (3 * done) (now (out .entry)) ++ over (bytesOf (panelOf (partAt width) mask (now (table .entry))) (clockedWords (r - done) (movedBy done state) (now (serial .entry)))) (drop (3 * done) (now (out .entry)))) ⌝ }
 {
     let here = state.clocks(done);
     let count = least(here.through, clocks - done);
     let from = here.state.pointer as usize;
     let to = from + count as usize;
     let at = 3 * (done as usize);
-    show_words(&serial[from..to], mask, table, &mut out[at..]);
+    show_words(&serial[from..to], width, mask, table, &mut out[at..]);
     done + count
 }
 
 // A run that is shown.
-fn show(state: Vram, serial: &[u16], mask: u8, table: &[u8], clocks: u32, out: &mut [u8])
+fn show(
+    state: Vram,
+    serial: &[u16],
+    width: Width,
+    mask: u8,
+    table: &[u8],
+    clocks: u32,
+    out: &mut [u8],
+)
     requires { ⌜ (clocksRefusal state clocks ≡ 0) × (length (now serial) ≡ 256) × (length (now table) ≡ 768) × (3 * clocks ≤ length (now out)) ⌝ }
-    ensures { λ r. ⌜ now (out .exit) ≡ over (shown (panelOf mask (now (table .entry))) clocks state (now (serial .entry))) (now (out .entry)) ⌝ }
+    ensures { λ r. ⌜ now (out .exit) ≡ over (shown (panelOf (partAt width) mask (now (table .entry))) clocks state (now (serial .entry))) (now (out .entry)) ⌝ }
 {
     let mut done: u32 = 0;
     while done < clocks {
-        done = stretch(state, serial, mask, table, clocks, out, done);
+        done = stretch(state, serial, width, mask, table, clocks, out, done);
     }
 }
 
@@ -65,6 +75,7 @@ fn clear(out: &mut [u8], n: usize)
 pub(crate) fn run_bytes(
     state: Vram,
     serial: &[u16],
+    width: Width,
     mask: u8,
     table: &[u8],
     clocks: u32,
@@ -72,10 +83,10 @@ pub(crate) fn run_bytes(
     out: &mut [u8],
 )
     requires { ⌜ (clocksRefusal state clocks ≡ 0) × (length (now serial) ≡ 256) × (length (now table) ≡ 768) × (3 * clocks ≤ length (now out)) ⌝ }
-    ensures { λ r. ⌜ now (out .exit) ≡ over (runBytes (panelOf mask (now (table .entry))) blank clocks state (now (serial .entry))) (now (out .entry)) ⌝ }
+    ensures { λ r. ⌜ now (out .exit) ≡ over (runBytes (panelOf (partAt width) mask (now (table .entry))) blank clocks state (now (serial .entry))) (now (out .entry)) ⌝ }
 {
     if blank == 0 {
-        show(state, serial, mask, table, clocks, out);
+        show(state, serial, width, mask, table, clocks, out);
     } else {
         clear(out, 3 * (clocks as usize));
     }

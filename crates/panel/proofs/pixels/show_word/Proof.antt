@@ -1,9 +1,12 @@
 -- `panel::pixels::show_word` meets its contract. Assumes nothing.
-use mathlib.Core.Path.{ap, _∙_}
-use Rattle.panel.specs.Panel.{panelOf, part}
-use Rattle.panel.proofs.Stores.{three-stores}
+use native.Mathlib.Nat.{mod-lt}
 use native.Mathlib.Omega.{arith}
-use lib.ListN.{length-set}
+use Prim.Native.Nat.{ℕ, _+_, _%_, _<_}
+use lib.ListN.{length-set, getD}
+use Rattle.panel.specs.Panel.{partAt, panelOf}
+use Rattle.panel.specs.PartLaws.{part-byte}
+use Rattle.panel.proofs.Stores.{three-stores}
+use Rattle.panel.proofs.Two.{two-back}
 use borrow.Author.Needs.{needs}
 use Rattle.panel.proofs.pixels.show_word.Statement.{statement}
 use Rattle.panel.proofs.pixels.show_word.Tie as tie
@@ -23,11 +26,17 @@ shared-slice-read-two-parts-2 c = search needs
 two-parts-requires : tie.Need-two-parts-requires
 two-parts-requires c κs = search needs
 
-cast-part : tie.Need-cast-part
-cast-part c = search needs
+add-two-parts-2 : tie.Need-add-two-parts-2
+add-two-parts-2 c = search needs
 
-part-requires : tie.Need-part-requires
-part-requires c κs = search needs
+shared-slice-read-two-parts-3 : tie.Need-shared-slice-read-two-parts-3
+shared-slice-read-two-parts-3 c = search needs
+
+two-parts-requires-2 : tie.Need-two-parts-requires-2
+two-parts-requires-2 c κs = search needs
+
+cast-out : tie.Need-cast-out
+cast-out c = search needs
 
 mul-out : tie.Need-mul-out
 mul-out c = search needs
@@ -35,11 +44,8 @@ mul-out c = search needs
 slice-write-out : tie.Need-slice-write-out
 slice-write-out c = search needs
 
-cast-part-2 : tie.Need-cast-part-2
-cast-part-2 c = search needs
-
-part-requires-2 : tie.Need-part-requires-2
-part-requires-2 c κs = search needs
+cast-out-2 : tie.Need-cast-out-2
+cast-out-2 c = omega arith
 
 mul-out-2 : tie.Need-mul-out-2
 mul-out-2 c = search needs
@@ -50,14 +56,8 @@ add-out c = search needs
 slice-write-out-2 : tie.Need-slice-write-out-2
 slice-write-out-2 c = simp length-set (omega arith)
 
-add-part : tie.Need-add-part
-add-part c = search needs
-
-shared-slice-read-part : tie.Need-shared-slice-read-part
-shared-slice-read-part c = search needs
-
-part-requires-3 : tie.Need-part-requires-3
-part-requires-3 c κs = search needs
+cast-out-3 : tie.Need-cast-out-3
+cast-out-3 c = search needs
 
 mul-out-3 : tie.Need-mul-out-3
 mul-out-3 c = search needs
@@ -74,13 +74,13 @@ same-length c = search needs
 returns : tie.Need-returns
 returns c =
     let d = c .before .before in
-    let e = d .before in
-    let f = e .before in
-    let g = f .before .before .before in
+    let g = d .before .before .before in
     let a = g .before .before .before .args in
-    let two = f .two-parts .ensures in
-    three-stores (panelOf (a .mask) (a .table .now)) (a .out .now) (a .word) (a .i) (g .place .result) _ _ _ (g .place .ensures .0)
-    (e .part .ensures ∙ ap part (two .0)) (d .part2 .ensures ∙ ap part (two .1)) (c .part3 .ensures)
+    let at = g .place .result in
+    let small : (k : ℕ) → partAt (a .width) (getD (a .table .now) k 0 % 64) < 256 = λ k. part-byte (a .width) (getD (a .table .now) k 0 % 64) (mod-lt (getD (a .table .now) k 0) (omega arith)) in
+    let rg = two-back _ _ _ (d .two-parts .ensures) (small at) in
+    let b = two-back _ _ _ (c .two-parts2 .ensures) (small (at + 2)) in
+    three-stores (panelOf (partAt (a .width)) (a .mask) (a .table .now)) (a .out .now) (a .word) (a .i) at _ _ _ (g .place .ensures .0) (rg .0) (rg .1) (b .0)
 
 pub show-word-spec : {M : Type 1} → statement M
 show-word-spec =
@@ -91,18 +91,17 @@ show-word-spec =
     add-two-parts
     shared-slice-read-two-parts-2
     two-parts-requires
-    cast-part
-    part-requires
+    add-two-parts-2
+    shared-slice-read-two-parts-3
+    two-parts-requires-2
+    cast-out
     mul-out
     slice-write-out
-    cast-part-2
-    part-requires-2
+    cast-out-2
     mul-out-2
     add-out
     slice-write-out-2
-    add-part
-    shared-slice-read-part
-    part-requires-3
+    cast-out-3
     mul-out-3
     add-out-2
     slice-write-out-3

@@ -1,29 +1,62 @@
 -- `panel::pixels::two_parts` meets its contract. Assumes nothing.
-use mathlib.Core.Path.{_≡_}
-use Prim.Native.Nat.{ℕ, _/_, _%_}
+use mathlib.Core.Path.{_≡_, ap, _∙_}
+use Prim.Native.Nat.{ℕ, _+_, _*_, _/_, _%_}
 use native.Mathlib.Omega.{arith}
-use lib.Bits.{bitAnd, and-mod, and-shr, and-mask}
+use Rattle.panel.specs.declared.Width.{Width}
+use Rattle.panel.specs.Panel.{partAt}
+use Rattle.panel.specs.PartLaws.{at-six, at-eight}
+use Rattle.panel.proofs.Two.{six-bits, top-two}
 use borrow.Author.Needs.{needs}
 use Rattle.panel.proofs.pixels.two_parts.Statement.{statement}
 use Rattle.panel.proofs.pixels.two_parts.Tie as tie
 
-low-byte : (n m : ℕ) → bitAnd n m % 256 ≡ bitAnd (n % 256) (m % 256)
-low-byte n m = and-mod n m 8
+two-masked-requires : tie.Need-two-masked-requires
+two-masked-requires c κs = search needs
 
-high-byte : (n m : ℕ) → bitAnd n m / 256 ≡ bitAnd (n / 256) (m / 256)
-high-byte n m = and-shr n m 8
+enum-told : tie.Need-enum-told
+enum-told c = search needs
 
-six-bits : (n : ℕ) → bitAnd n 63 ≡ n % 64
-six-bits n = and-mask n 6
-
-mul-both : tie.Need-mul-both
-mul-both c = search needs
-
-add-both : tie.Need-add-both
-add-both c = search needs
+enum-told-2 : tie.Need-enum-told-2
+enum-told-2 c = search needs
 
 returns : tie.Need-returns
-returns c = (simp (low-byte, six-bits) (omega (arith, c .fits .red)), simp (high-byte, six-bits) (omega (arith, c .fits .red)))
+returns c =
+    let t = c .before .before in
+    let a = t .before .args in
+    let part : (six : ℕ) → partAt (a .width) six ≡ six = λ six. ap (λ (w : Width). partAt w six) (c .enum-told .given .1) ∙ at-six six in
+    omega (arith, t .two-masked .ensures, six-bits (a .low), six-bits (a .high), part (a .low % 64), part (a .high % 64))
+
+returns-2 : tie.Need-returns-2
+returns-2 c =
+    let t = c .before .before .before in
+    let a = t .before .args in
+    let part : (six : ℕ) → partAt (a .width) six ≡ 4 * six + six / 16 = λ six. ap (λ (w : Width). partAt w six) (c .before .enum-told2 .given .1) ∙ at-eight six in
+    omega (arith, t .two-masked .ensures, six-bits (a .low), six-bits (a .high), c .two-masked2 .ensures, top-two (a .low), top-two (a .high), part (a .low % 64), part (a .high % 64))
+
+mul-result : tie.Need-mul-result
+mul-result c =
+    let t = c .before .before in
+    let a = t .before .args in
+    omega (arith, t .two-masked .ensures, six-bits (a .low), six-bits (a .high))
+
+two-masked-requires-2 : tie.Need-two-masked-requires-2
+two-masked-requires-2 c κs = search needs
+
+add-result : tie.Need-add-result
+add-result c =
+    let t = c .before .before .before in
+    let a = t .before .args in
+    omega (arith, t .two-masked .ensures, six-bits (a .low), six-bits (a .high), c .two-masked2 .ensures, top-two (a .low), top-two (a .high))
 
 pub two-parts-spec : {M : Type 1} → statement M
-two-parts-spec = tie.close (tie.spec mul-both add-both returns)
+two-parts-spec =
+    tie.close
+    (tie.spec
+    two-masked-requires
+    enum-told
+    enum-told-2
+    mul-result
+    two-masked-requires-2
+    add-result
+    returns
+    returns-2)

@@ -10,7 +10,7 @@ use Rattle.vram.specs.Serial.{through, clocks as moved, clockedWords}
 use Rattle.vram.specs.Calls.{clocksRefusal, clocksCall}
 use Rattle.vram.specs.SerialLaws.{through-within}
 use Rattle.vram.specs.CallLaws.{clocks-moves, clocks-leads, clocks-fewer}
-use Rattle.panel.specs.Panel.{panelOf, bytesOf}
+use Rattle.panel.specs.Panel.{partAt, panelOf, bytesOf}
 use Rattle.numbers.specs.Buffer.{over}
 use Rattle.panel.proofs.Stretch.{one-stretch}
 use borrow.Author.Needs.{needs}
@@ -97,10 +97,10 @@ returns c =
     let q = through-within here p in (
       omega (arith, m .least .ensures, t .1, q .0),
       omega (arith, m .least .ensures),
-      one-stretch (panelOf (a .mask) (a .table .now)) (a .serial .now) (a .out .now) _ here (3 * a .done) (m .least .result) p
+      one-stretch (panelOf (partAt (a .width)) (a .mask) (a .table .now)) (a .serial .now) (a .out .now) _ here (3 * a .done) (m .least .result) p
           (omega (arith, m .least .ensures, t .1)) (omega (arith, m .least .ensures, t .1, q .1, s .pre .1)) (a .done + m .least .result - a .done) (omega arith)
           (omega (arith, s .pre .3)) (w .show-words .ensures)
-          ∙ ap (λ (x : Vram). take (3 * a .done) (a .out .now) ++ over (bytesOf (panelOf (a .mask) (a .table .now)) (clockedWords (a .done + m .least .result - a .done) x (a .serial .now))) (drop (3 * a .done) (a .out .now))) (t .0),
+          ∙ ap (λ (x : Vram). take (3 * a .done) (a .out .now) ++ over (bytesOf (panelOf (partAt (a .width)) (a .mask) (a .table .now)) (clockedWords (a .done + m .least .result - a .done) x (a .serial .now))) (drop (3 * a .done) (a .out .now))) (t .0),
     )
 
 pub stretch-spec : {M : Type 1} → statement M
