@@ -158,7 +158,7 @@ pub extern "C" fn linkshoar_serial_clock(state: Registers, serial: &[u16]) -> Cl
     }
 }
 
-// A run to the panel, shown with parts of a width, or blanked where blank is not 0.
+// A run to the panel, shown with parts of this width, or blanked where blank is not 0. Both exports below are this one.
 fn panel_run(
     width: Width,
     state: Registers,

@@ -53,10 +53,12 @@ panelOf parts mask table = record { pixelOf = pixel; partOf = parts; mask = mask
 abbrev pub entryOf : Panel → ℕ → ℕ
 entryOf p word = bitAnd (p .pixelOf word) (p .mask)
 
+-- a colour by a rule of parts
+abbrev pub shaded : (ℕ → ℕ) → Colour → Colour
+shaded parts c = colour (parts (c .red)) (parts (c .green)) (parts (c .blue))
+
 unfoldable pub colourOf : Panel → ℕ → Colour
-colourOf p word =
-    let c = gives (p .table) (entryOf p word) in
-    colour (p .partOf (c .red)) (p .partOf (c .green)) (p .partOf (c .blue))
+colourOf p word = shaded (p .partOf) (gives (p .table) (entryOf p word))
 
 -- three bytes for each word
 unfoldable pub bytesOf : Panel → List ℕ → List ℕ

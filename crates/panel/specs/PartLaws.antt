@@ -8,7 +8,7 @@ use Rattle.words.specs.BitLaws.{bit-shr, bit-mod}
 use Rattle.palette.specs.Table.{Colour, colour, gives}
 use Rattle.panel.specs.declared.Width.{Width}
 use Rattle.panel.specs.declared.Width.the-variants.{Six, Eight}
-use Rattle.panel.specs.Panel.{widened, unwidened, partAt, panelOf, entryOf, colourOf}
+use Rattle.panel.specs.Panel.{widened, unwidened, partAt, panelOf, entryOf, shaded, colourOf}
 
 -- ---- computed: the ends, and both sides of each step of v/16
 
@@ -72,10 +72,6 @@ module _ (six : ℕ) (h : six < 64) where
   widened-low-bit b l = sym (bit-mod (widened six) 2 b l) ∙ ap (λ (n : ℕ). bit n b) widened-low ∙ bit-shr six 4 b
 
 -- ---- colours
-
--- a colour by a rule of parts
-abbrev pub shaded : (ℕ → ℕ) → Colour → Colour
-shaded parts c = colour (parts (c .red)) (parts (c .green)) (parts (c .blue))
 
 -- no two colours fall together
 pub colours-apart : (c d : Colour) → shaded widened c ≡ shaded widened d → c ≡ d

@@ -33,10 +33,12 @@ module _ (parts others : ℕ → ℕ) (s : Vram) (r : List ℕ) (p : Palette) (t
   pub same-refused : runRefusal s p (length r) (length t) k (length out) ≢ 0 → runCallBy parts s r p t k blank out ≡ runCallBy others s r p t k blank out
   same-refused h = sym (run-refuses parts s r p t k blank out _ refl h) ∙ run-refuses others s r p t k blank out _ refl h
 
-  -- or blanked
-  pub same-blanked : blank ≢ 0 → runCallBy parts s r p t k blank out ≡ runCallBy others s r p t k blank out
-  unfolding runCallBy
-  same-blanked h = rw (ne-eqb blank 0 h)
+-- a blanked run that is not refused writes zeros, by every rule
+pub run-blanked : (parts : ℕ → ℕ) (s : Vram) (r : List ℕ) (p : Palette) (t : List ℕ) (k blank : ℕ) (out : List ℕ) → blank ≢ 0
+    → runRefusal s p (length r) (length t) k (length out) ≡ 0 → runCallBy parts s r p t k blank out ≡ outcome (answered 0 (clocks k s)) (over (zeros (3 * k)) out)
+run-blanked parts s r p t k blank out h z =
+    run-made parts s r p t k blank out z
+    ∙ ap (λ (b : Bool). outcome (answered 0 (clocks k s)) (over (cond b (shown (panelOf parts (p .mask) t) k s r) (zeros (3 * k))) out)) (ne-eqb blank 0 h)
 
 -- ---- the bytes of one by the bytes of the other
 

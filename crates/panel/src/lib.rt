@@ -1,6 +1,7 @@
 // A run to the panel: serial words through the palette to bytes. Document 01, "A run to the panel"; source document 001 (Am81C176),
 // its pixel mask and colour table. The sheet has eight pixel inputs; which byte of a word they take is the board's rule: the high byte, a
-// mark; under 0 the low byte, a result; under 255 the low byte inverted, a result in reverse (change request M-101).
+// mark; under 0 the low byte, a result; under 255 the low byte inverted, a result in reverse (change request M-101). The sheet's parts have
+// six bits; the panel takes eight, and by name six (change request M-108).
 // A call stands for a whole run. Not modelled: the pixel clock, sync, the converters and their levels.
 // A run goes in stretches to the end of a partition, so that the inner loop has no test; the tap is used up and the pointer advanced in
 // `vram` alone.
@@ -43,13 +44,13 @@ fn refusal(
     refuse(state.ruled() & palette.ruled(), numbers::STATE_EXCLUDED, n)
 }
 
-// How many bits a part has on the panel: six as the palette holds them, or eight, widened.
+// How many bits the panel takes for a part: six, as the palette has them, or eight, to which it is widened.
 pub enum Width {
     Six,
     Eight,
 }
 
-// A run of some clocks, shown with parts of a width, or blanked where blank is not 0.
+// A run of some clocks, shown with parts of this width, or blanked where blank is not 0. Both runs below are this one.
 pub fn run_at(
     width: Width,
     state: Vram,
@@ -84,7 +85,7 @@ pub fn run_at(
     }
 }
 
-// The default: parts of eight bits, 0 to 255.
+// A run with parts of eight bits, 0 to 255: the default.
 pub fn run(
     state: Vram,
     serial: &[u16],
@@ -108,7 +109,7 @@ pub fn run(
     )
 }
 
-// Parts of six bits, 0 to 63.
+// A run with parts of six bits, 0 to 63.
 pub fn run_six(
     state: Vram,
     serial: &[u16],

@@ -30,7 +30,7 @@ fn place(word: u16, mask: u8) -> usize
     3 * ((byte & wide) as usize)
 }
 
-// Two bytes as one number, each ANDed with a mask: the compiler takes one load and one AND for both.
+// Two bytes as one number, each ANDed with a mask: the compiler takes one load, one AND and one store for both.
 fn two_masked(low: u8, high: u8, mask: u8) -> u16
     ensures { λ r. ⌜ r ≡ two (bitAnd low mask) (bitAnd high mask) ⌝ }
 {
@@ -39,7 +39,8 @@ fn two_masked(low: u8, high: u8, mask: u8) -> u16
     both & (each + 256 * each)
 }
 
-// Two parts of an entry as the panel takes them, as one number: 4v is added to v/16 for both at once.
+// Two parts of an entry as the panel takes them, as one number: six bits, or 4v + v/16 for both at once. v/16 is taken of bits 4 and 5 alone,
+// so that no bit of one part reaches the other. The compiler takes the choice of the width out of the loop that calls this.
 fn two_parts(width: Width, low: u8, high: u8) -> u16
     ensures { λ r. ⌜ r ≡ two (partAt width (low % 64)) (partAt width (high % 64)) ⌝ }
 {
