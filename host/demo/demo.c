@@ -188,14 +188,15 @@ static void survive_power_off(linkshoar_palette *palette)
 
 static void show(linkshoar_palette palette)
 {
+    enum { HALF_BYTES = 3 * LINKSHOAR_SERIAL_WORDS };
     for (uint16_t row = 0; row < ROWS; row++)
         for (uint8_t half = 0; half < 2; half++) {
             size_t bytes = linkshoar_put_full_transfer(list, row, half, 0);
             linkshoar_ran ran = linkshoar_list_run(state, memory, ROWS * COLUMNS, serial, LINKSHOAR_SERIAL_WORDS, list, bytes);
             must(ran.number, "transfer");
             linkshoar_shown shown = linkshoar_panel_run(ran.state, serial, LINKSHOAR_SERIAL_WORDS, palette, table, sizeof table,
-                                                        LINKSHOAR_SERIAL_WORDS, 0, picture[row][half * LINKSHOAR_SERIAL_WORDS],
-                                                        3 * LINKSHOAR_SERIAL_WORDS);
+                                                        LINKSHOAR_SERIAL_WORDS, 0, (uint8_t *)picture[row] + half * HALF_BYTES,
+                                                        HALF_BYTES);
             must(shown.number, "panel");
             state = shown.state;
         }
@@ -222,7 +223,7 @@ static const char *what_is_wrong(void)
     if (!exchanged(CMV, HIV))
         return "the old result is not legible";
     if (memcmp(picture[HIV + 4][VALUE], result, 3))
-        return "a colour is not the palette's";
+        return "a colour is not the palette's in eight bits";
     return NULL;
 }
 

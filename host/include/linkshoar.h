@@ -29,9 +29,9 @@
 extern "C" {
 #endif
 
-/* Since 4.5.0 linkshoar_panel_run writes parts of eight bits, 0 to 255, and no longer of six, 0 to 63. A program that takes six bits must change:
- * for a panel of six bits it calls linkshoar_panel_run_six, which takes the same arguments and answers what linkshoar_panel_run answered
- * before; a program that widened the six bits itself widens no longer.
+/* Since 4.5.0 linkshoar_panel_run writes red, green and blue in eight bits, 0 to 255, and no longer in six, 0 to 63. A program that relied on
+ * six bits must change: it calls linkshoar_panel_run_six, which takes the same arguments and answers what linkshoar_panel_run answered before;
+ * or, if it widened the six bits itself, it leaves that to linkshoar_panel_run, which makes 4 * v + v / 16 of v.
  * Since 4.4.0 a high byte of 255 is no mark: the panel shows the low byte inverted, whatever the pixel mask. A program whose words may have a
  * high byte of 255 must change: a mark of 255 takes another high byte, 1 to 254, and the entry that this names takes the mark's colour; a
  * program that fills both bytes with FFFF to show entry 255 fills them with 00FF.
@@ -333,10 +333,10 @@ linkshoar_clocked linkshoar_serial_clock(linkshoar_vram state, const uint16_t *s
 
 /* A run of 0 to 512 clocks to the panel: red, green, blue of each word at the start of out, zeros where blank is not 0. linkshoar_panel_run
  * writes eight bits for each, 0 to 255: the table's six bits v become 4 * v + v / 16, so that 0 stays 0, 63 becomes 255 and v is the top six
- * bits. linkshoar_panel_run_six writes the six bits, 0 to 63; in all else the two are the same. A word's pixel is its high byte, the mark; but
- * where that is 0 its low byte, the result, and where that is 255 its low byte with all eight bits inverted, the result in reverse. The pixel
- * ANDed with the pixel mask is the entry shown: FFFF shows entry 0. out_bytes: the room in out, at least 3 * clocks. Refused with 1, 3, 10, 14,
- * 15.
+ * bits. linkshoar_panel_run_six, for a panel of six bits, writes v itself, 0 to 63; in all else the two are the same. A word's pixel is its
+ * high byte, the mark; but where that is 0 its low byte, the result, and where that is 255 its low byte with all eight bits inverted, the
+ * result in reverse. The pixel ANDed with the pixel mask is the entry shown: FFFF shows entry 0. out_bytes: the room in out, at least
+ * 3 * clocks. Refused with 1, 3, 10, 14, 15.
  *
  * Reverse video, for a recheck: a fill of the result's cell through mask FF00 with the colour LINKSHOAR_HIGH_REVERSE * 256 leaves the low
  * bytes, the result, as they are; the same fill with LINKSHOAR_HIGH_RESULT * 256 ends it. Meanwhile a result of e shows as entry 255 - e, ANDed

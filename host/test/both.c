@@ -3,6 +3,7 @@
 #include "compare.h"
 #include "model.h"
 
+#include <stdio.h>
 #include <string.h>
 
 void both_list_run(linkshoar_vram state, size_t words, size_t serial_words, size_t length)
@@ -43,6 +44,13 @@ void both_serial_clock(linkshoar_vram state, size_t serial_words)
 typedef linkshoar_shown panel_run(linkshoar_vram state, const uint16_t *serial, size_t serial_words, linkshoar_palette palette,
                                   const uint8_t *table, size_t table_bytes, uint32_t clocks, uint32_t blank, uint8_t *out, size_t out_bytes);
 
+static const char *of(const char *what, const char *name)
+{
+    static char text[80];
+    snprintf(text, sizeof text, "%s of %s", what, name);
+    return text;
+}
+
 static void both_runs(const char *name, panel_run *ours, panel_run *theirs, linkshoar_vram state, size_t serial_words,
                       linkshoar_palette palette, size_t table_bytes, uint32_t clocks, uint32_t blank, size_t room)
 {
@@ -53,9 +61,9 @@ static void both_runs(const char *name, panel_run *ours, panel_run *theirs, link
     count(b.number);
     if (!vram_same(a.state, b.state) || a.number != b.number)
         differ(name);
-    same_bytes(name, bytes_a, bytes_b, room);
-    same_words(name, serial_a, serial_b, serial_words);
-    same_bytes(name, table_a, table_b, table_bytes);
+    same_bytes(of("the bytes", name), bytes_a, bytes_b, room);
+    same_words(of("the serial register", name), serial_a, serial_b, serial_words);
+    same_bytes(of("the table", name), table_a, table_b, table_bytes);
 }
 
 void both_panel_run(linkshoar_vram state, size_t serial_words, linkshoar_palette palette, size_t table_bytes, uint32_t clocks,

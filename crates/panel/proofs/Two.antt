@@ -1,6 +1,6 @@
 -- Two bytes as one number, and the bits that a part has of a byte. Assumes nothing.
 use mathlib.Core.Path.{_≡_, ap₂, _∙_}
-use Prim.Native.Nat.{ℕ, _+_, _*_, _/_, _%_, _<_}
+use Prim.Native.Nat.{ℕ, _*_, _/_, _%_, _<_}
 use native.Mathlib.Omega.{arith}
 use lib.Bits.{bitAnd, and-mod, and-shr, and-mask, and-zero-r}
 use Rattle.panel.specs.Two.{two}

@@ -16,7 +16,7 @@ pub widened-example : map widened (0 ∷ 1 ∷ 15 ∷ 16 ∷ 31 ∷ 32 ∷ 47 �
 unfolding widened
 widened-example = refl
 
--- ---- each rule as a number
+-- ---- each rule by its width and as a number
 
 pub widened-is : (six : ℕ) → widened six ≡ 4 * six + six / 16
 unfolding widened
@@ -26,13 +26,19 @@ pub unwidened-is : (six : ℕ) → unwidened six ≡ six
 unfolding unwidened
 unwidened-is six = refl
 
-pub at-six : (six : ℕ) → partAt Six six ≡ six
+pub six-rule : partAt Six ≡ unwidened
 unfolding partAt
-at-six six = unwidened-is six
+six-rule = refl
+
+pub eight-rule : partAt Eight ≡ widened
+unfolding partAt
+eight-rule = refl
+
+pub at-six : (six : ℕ) → partAt Six six ≡ six
+at-six six = ap (λ (f : ℕ → ℕ). f six) six-rule ∙ unwidened-is six
 
 pub at-eight : (six : ℕ) → partAt Eight six ≡ 4 * six + six / 16
-unfolding partAt
-at-eight six = widened-is six
+at-eight six = ap (λ (f : ℕ → ℕ). f six) eight-rule ∙ widened-is six
 
 -- a part is a byte at every width
 pub part-byte : (w : Width) (six : ℕ) → six < 64 → partAt w six < 256

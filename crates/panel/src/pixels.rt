@@ -1,6 +1,6 @@
 // From a word to the three bytes that show it.
 ghost use mathlib.Core.Path.{_≡_};
-ghost use Prim.Native.Nat.{_+_, _*_, _/_, _%_, _≤_, _<_};
+ghost use Prim.Native.Nat.{_+_, _*_, _%_, _≤_, _<_};
 ghost use lib.Bits.{bitAnd};
 ghost use lib.ListN.{length};
 ghost use Rattle.palette.specs.Table.{store};
@@ -30,24 +30,24 @@ fn place(word: u16, mask: u8) -> usize
     3 * ((byte & wide) as usize)
 }
 
-// Two bytes as one number, each ANDed with a mask: the compiler takes one load, one AND and one store for both.
-fn two_masked(low: u8, high: u8, mask: u8) -> u16
-    ensures { λ r. ⌜ r ≡ two (bitAnd low mask) (bitAnd high mask) ⌝ }
+// Two bytes as one number, with only these bits of each: the compiler takes one load, one AND and one store for both.
+fn two_kept(low: u8, high: u8, bits: u8) -> u16
+    ensures { λ r. ⌜ r ≡ two (bitAnd low bits) (bitAnd high bits) ⌝ }
 {
     let both = (low as u16) + 256 * (high as u16);
-    let each = mask as u16;
+    let each = bits as u16;
     both & (each + 256 * each)
 }
 
-// Two parts of an entry as the panel takes them, as one number: six bits, or 4v + v/16 for both at once. v/16 is taken of bits 4 and 5 alone,
-// so that no bit of one part reaches the other. The compiler takes the choice of the width out of the loop that calls this.
+// Two parts of an entry as the panel takes them, as one number. v/16 is taken of bits 4 and 5 alone, so that no bit of one part reaches the
+// other. The compiler takes the choice of the width out of the loop that calls this.
 fn two_parts(width: Width, low: u8, high: u8) -> u16
     ensures { λ r. ⌜ r ≡ two (partAt width (low % 64)) (partAt width (high % 64)) ⌝ }
 {
-    let six = two_masked(low, high, 0x3F);
+    let six = two_kept(low, high, 0x3F);
     match width {
         Width::Six => six,
-        Width::Eight => 4 * six + two_masked(low, high, 0x30) / 16,
+        Width::Eight => 4 * six + two_kept(low, high, 0x30) / 16,
     }
 }
 

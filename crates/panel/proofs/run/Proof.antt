@@ -1,5 +1,5 @@
 -- `panel::run` meets its contract. Assumes nothing.
-use Rattle.panel.specs.Panel.{partAt}
+use Rattle.panel.specs.PartLaws.{eight-rule}
 use borrow.Author.Needs.{needs}
 use Rattle.panel.proofs.run.Statement.{statement}
 use Rattle.panel.proofs.run.Tie as tie
@@ -11,8 +11,7 @@ same-length : tie.Need-same-length
 same-length c = search needs
 
 returns : tie.Need-returns
-unfolding partAt
-returns c = c .before .before .run-at .ensures
+returns c = rw (← eight-rule) (c .before .before .run-at .ensures)
 
 pub run-spec : {M : Type 1} → statement M
 run-spec = tie.close (tie.spec run-at-requires same-length returns)

@@ -1,5 +1,5 @@
 -- `panel::run_six` meets its contract. Assumes nothing.
-use Rattle.panel.specs.Panel.{partAt}
+use Rattle.panel.specs.PartLaws.{six-rule}
 use borrow.Author.Needs.{needs}
 use Rattle.panel.proofs.run_six.Statement.{statement}
 use Rattle.panel.proofs.run_six.Tie as tie
@@ -11,8 +11,7 @@ same-length : tie.Need-same-length
 same-length c = search needs
 
 returns : tie.Need-returns
-unfolding partAt
-returns c = c .before .before .run-at .ensures
+returns c = rw (← six-rule) (c .before .before .run-at .ensures)
 
 pub run-six-spec : {M : Type 1} → statement M
 run-six-spec = tie.close (tie.spec run-at-requires same-length returns)
