@@ -30,8 +30,9 @@ extern "C" {
 #endif
 
 /* Since 4.5.0 linkshoar_panel_run writes red, green and blue in eight bits, 0 to 255, and no longer in six, 0 to 63. A program that relied on
- * six bits must change: it calls linkshoar_panel_run_six, which takes the same arguments and answers what linkshoar_panel_run answered before;
- * or, if it widened the six bits itself, it leaves that to linkshoar_panel_run, which makes 4 * v + v / 16 of v.
+ * six bits must change, and it compiles unchanged, so look for every call: it calls linkshoar_panel_run_six, which takes the same arguments
+ * and answers what linkshoar_panel_run answered before; or, if it widened the six bits itself, it leaves that to linkshoar_panel_run, which
+ * makes 4 * v + v / 16 of v. One that widened by another rule and must keep its colours calls linkshoar_panel_run_six.
  * Since 4.4.0 a high byte of 255 is no mark: the panel shows the low byte inverted, whatever the pixel mask. A program whose words may have a
  * high byte of 255 must change: a mark of 255 takes another high byte, 1 to 254, and the entry that this names takes the mark's colour; a
  * program that fills both bytes with FFFF to show entry 255 fills them with 00FF.

@@ -72,7 +72,8 @@ static void panel_edges(void)
     }
 }
 
-/* All 65,536 words, 256 to a register by their high byte, through pixel masks that keep all bits, none and some. */
+/* All 65,536 words, 256 to a register by their high byte, through pixel masks that keep all bits, none and some, at both
+ * widths. */
 static void every_word(void)
 {
     static const uint8_t masks[] = {255, 0, 1, 128, 0x0F, 0xF0, 0x55, 0xAA};
@@ -87,6 +88,7 @@ static void every_word(void)
         for (size_t m = 0; m < sizeof masks; m++) {
             palette.mask = masks[m];
             both_panel_run(loaded(), 256, palette, 768, 256, 0, 768);
+            both_panel_run_six(loaded(), 256, palette, 768, 256, 0, 768);
         }
     }
 }

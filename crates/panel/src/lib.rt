@@ -1,7 +1,7 @@
 // A run to the panel: serial words through the palette to bytes. Document 01, "A run to the panel"; source document 001 (Am81C176),
 // its pixel mask and colour table. The sheet has eight pixel inputs; which byte of a word they take is the board's rule: the high byte, a
-// mark; under 0 the low byte, a result; under 255 the low byte inverted, a result in reverse (change request M-101). The sheet's parts have
-// six bits: `run` widens them to eight, `run_six` leaves them (change request M-108).
+// mark; under 0 the low byte, a result; under 255 the low byte inverted, a result in reverse (change request M-101). The sheet's red,
+// green and blue have six bits each: `run` widens them to eight, `run_six` leaves them (change request M-108).
 // A call stands for a whole run. Not modelled: the pixel clock, sync, the converters and their levels.
 // A run goes in stretches to the end of a partition, so that the inner loop has no test; the tap is used up and the pointer advanced in
 // `vram` alone.
