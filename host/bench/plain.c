@@ -3,9 +3,15 @@
 
 #include <string.h>
 
+static int partition_bad(unsigned length)
+{
+    return length != 16 && length != 32 && length != 64 && length != 128;
+}
+
 static int vram_bad(linkshoar_vram s)
 {
-    return s.persistent > 1 || s.loaded > 1 || s.waiting > 1 || (s.waiting ? !s.loaded || (s.tap ^ s.pointer) < 128 : s.tap != 0);
+    return partition_bad(s.stop) || s.persistent > 1 || s.loaded > 1 || s.waiting > 1 ||
+           (s.waiting ? !s.loaded || (s.tap ^ s.pointer) < 128 : s.tap != 0);
 }
 
 static int palette_bad(linkshoar_palette p)
@@ -18,11 +24,11 @@ static unsigned pair(const uint8_t *at)
     return (unsigned)at[0] << 8 | at[1];
 }
 
-static const uint8_t body_bytes[8] = {255, 10, 10, 3, 3, 0, 4, 4};
+static const uint8_t body_bytes[10] = {255, 10, 10, 3, 3, 0, 4, 4, 255, 1};
 
 static uint32_t judge(const uint8_t *f, size_t left, unsigned rows, int loaded)
 {
-    if (left < 3 || f[0] < 1 || f[0] > 7 || pair(f + 1) != body_bytes[f[0]] || left < 3u + body_bytes[f[0]])
+    if (left < 3 || f[0] < 1 || f[0] > 9 || f[0] == 8 || pair(f + 1) != body_bytes[f[0]] || left < 3u + body_bytes[f[0]])
         return 4;
     const uint8_t *b = f + 3;
     switch (f[0]) {
@@ -34,6 +40,8 @@ static uint32_t judge(const uint8_t *f, size_t left, unsigned rows, int loaded)
         return pair(b) >= rows ? 5 : b[2] > 1 ? 9 : 0;
     case 7:
         return pair(b) >= rows ? 5 : b[2] > 1 || b[3] > 127 ? 9 : loaded ? 0 : 10;
+    case 9:
+        return partition_bad(b[0]) ? 19 : 0;
     default:
         return 0;
     }
@@ -91,16 +99,18 @@ linkshoar_ran linkshoar_list_run(linkshoar_vram state, uint16_t *memory, size_t 
         }
         case 3: s.colour = merge(s.colour, pair(b), bytes_of(b[2])); break;
         case 4: s.mask = merge(s.mask, pair(b), bytes_of(b[2])), s.persistent = 1; break;
-        case 5: s.persistent = 0; break;
+        case 5: s.persistent = 0, s.stop = FAULT == 10 ? s.stop : 128; break;
         case 6:
             memcpy(serial, memory + 512 * pair(b) + 256u * b[2], 512);
             s.loaded = 1, s.pointer = b[3], s.waiting = 0, s.tap = 0;
             break;
-        default: {
+        case 7: {
             unsigned h = s.pointer < 128 ? 128 : 0;
             memcpy(serial + h, memory + 512 * pair(b) + 256u * b[2] + h, 256);
             s.waiting = 1, s.tap = (uint8_t)(h + b[3]);
+            break;
         }
+        default: s.stop = b[0];
         }
     }
     r.state = s;
@@ -156,7 +166,8 @@ linkshoar_filled linkshoar_fill(uint32_t rows, uint32_t first_row, uint32_t end_
 
 static linkshoar_vram clocked(linkshoar_vram s)
 {
-    if (s.waiting && (s.pointer & 127) == 127)
+    unsigned last = (FAULT == 11 ? 128u : s.stop) - 1;
+    if (s.waiting && (s.pointer & last) == last)
         s.pointer = s.tap, s.waiting = FAULT == 3, s.tap = 0;
     else
         s.pointer++;
@@ -186,7 +197,7 @@ static linkshoar_shown run(int six, linkshoar_vram state, const uint16_t *serial
     if (r.number)
         return r;
     for (uint32_t left = clocks; left;) {
-        uint32_t n = 128u - (r.state.pointer & 127u);
+        uint32_t n = state.stop - (r.state.pointer & (state.stop - 1u));
         n = n < left ? n : left;
         const uint16_t *word = serial + r.state.pointer;
         if (blank) {

@@ -6,7 +6,7 @@
 #include <string.h>
 
 /* What is read and answered as whole numbers is laid out so. */
-_Static_assert(sizeof(linkshoar_vram) == 10 && sizeof(linkshoar_clocked) == 16, "structs");
+_Static_assert(sizeof(linkshoar_vram) == 10 && offsetof(linkshoar_vram, stop) == 9 && sizeof(linkshoar_clocked) == 16, "structs");
 _Static_assert(sizeof(linkshoar_palette) == 6 && sizeof(linkshoar_accessed) == 12, "structs");
 
 /* ---- whole loads and stores: a list's bytes as one number, the first byte highest */
@@ -40,11 +40,17 @@ static void put_eight(uint8_t *at, uint64_t n)
 
 /* ---- lists */
 
+/* 16, 32, 64 and 128: one bit alone, and none below 16. */
+static int partition_bad(unsigned length)
+{
+    return length < 16 || (length & (length - 1));
+}
+
 static int vram_bad(linkshoar_vram s)
 {
     uint64_t first;
     memcpy(&first, &s, 8);
-    if (first & 0xFE00FEFE00000000) /* waiting, loaded or persistent over 1 */
+    if ((first & 0xFE00FEFE00000000) || partition_bad(s.stop)) /* waiting, loaded or persistent over 1, or no partition's length */
         return 1;
     return s.waiting ? !s.loaded || (s.tap ^ s.pointer) < 128 : s.tap != 0;
 }
@@ -88,6 +94,9 @@ static inline uint32_t judge(const uint8_t *f, uint32_t rows, int *loaded, size_
         *bytes = 7;
         b = four(f + 3);
         return b >> 16 >= rows ? 5 : (b & 0xFE80) ? 9 : *loaded ? 0 : 10;
+    case HEADER(9, 1):
+        *bytes = 4;
+        return partition_bad(f[3]) ? 19 : 0;
     default:
         return 4;
     }
@@ -176,8 +185,11 @@ linkshoar_ran linkshoar_list_run(linkshoar_vram state, uint16_t *memory, size_t 
                 s.mask = merge(s.mask, value, allow), s.persistent = 1;
             f += 6;
         } else if (f[0] == 5) {
-            s.persistent = 0;
+            s.persistent = 0, s.stop = FAULT == 10 ? s.stop : 128;
             f += 3;
+        } else if (f[0] == 9) {
+            s.stop = f[3];
+            f += 4;
         } else {
             uint32_t b = four(f + 3);
             const uint16_t *half = memory + 512 * (b >> 16) + 256 * (b >> 8 & 1);
@@ -259,17 +271,17 @@ linkshoar_filled linkshoar_fill(uint32_t rows, uint32_t first_row, uint32_t end_
 
 static linkshoar_vram clocked(linkshoar_vram s)
 {
-    if (s.waiting && (s.pointer & 127) == 127)
+    if (s.waiting && !((s.pointer + 1) & ((FAULT == 11 ? 128 : s.stop) - 1)))
         s.pointer = s.tap, s.waiting = FAULT == 3, s.tap = 0;
     else
         s.pointer++;
     return s;
 }
 
-/* At most a half's words. Each pixel but the last is stored with a fourth byte, which the next one stores over. */
+/* At most a register's words. Each pixel but the last is stored with a fourth byte, which the next one stores over. */
 static void show(uint8_t *out, const uint16_t *word, uint32_t n, uint16_t mask, const uint8_t *shades)
 {
-    uint16_t entry[128];
+    uint16_t entry[256];
     for (uint32_t i = 0; i < n; i++) {
         int16_t high = (int16_t)word[i] >> 8; /* gcc keeps bits and sign: 0 stays 0, 255 is all ones */
         uint16_t folded = (uint16_t)(word[i] ^ high); /* under these two the low byte as it is, or inverted; else over 255 */
@@ -317,7 +329,7 @@ static linkshoar_shown run(int six, linkshoar_vram state, const uint16_t *serial
             shades[i] = part(table[i], six);
     shades[768] = 0;
     for (uint32_t left = clocks; left;) {
-        uint32_t n = 128u - (r.state.pointer & 127u);
+        uint32_t n = r.state.waiting ? state.stop - (r.state.pointer & (state.stop - 1u)) : 256u - r.state.pointer; /* with no jump in it */
         n = n < left ? n : left;
         if (!blank)
             show(out, serial + r.state.pointer, n, palette.mask, shades);
@@ -343,11 +355,11 @@ linkshoar_shown linkshoar_panel_run_six(linkshoar_vram state, const uint16_t *se
     return run(1, state, serial, serial_words, palette, table, table_bytes, clocks, blank, out, out_bytes);
 }
 
-/* The registers from the lowest byte up: colour, mask (two each), persistent, loaded, pointer, waiting; then the tap, a spare byte, the
- * word answered (two) and the number. */
-static linkshoar_clocked clock_answer(uint64_t registers, uint64_t tap, uint64_t word, uint64_t number)
+/* The registers from the lowest byte up: colour, mask (two each), persistent, loaded, pointer, waiting; then the tap and the partition's
+ * length, the word answered (two) and the number. */
+static linkshoar_clocked clock_answer(uint64_t registers, uint64_t tap_and_stop, uint64_t word, uint64_t number)
 {
-    const uint64_t parts[2] = {registers, tap | word << 16 | number << 32};
+    const uint64_t parts[2] = {registers, tap_and_stop | word << 16 | number << 32};
     linkshoar_clocked r;
     memcpy(&r, parts, sizeof r);
     return r;
@@ -357,16 +369,17 @@ linkshoar_clocked linkshoar_serial_clock(linkshoar_vram state, const uint16_t *s
 {
     uint64_t registers;
     memcpy(&registers, &state, 8);
+    unsigned stop = state.stop, tap_and_stop = state.tap | stop << 8;
     if (vram_bad(state))
-        return clock_answer(registers, state.tap, 0, 1);
+        return clock_answer(registers, tap_and_stop, 0, 1);
     if (serial_words != 256)
-        return clock_answer(registers, state.tap, 0, 3);
+        return clock_answer(registers, tap_and_stop, 0, 3);
     if (!state.loaded)
-        return clock_answer(registers, state.tap, 0, 10);
+        return clock_answer(registers, tap_and_stop, 0, 10);
     uint8_t pointer = (uint8_t)(registers >> 48);
-    if (state.waiting && (pointer & 127) == 127)
-        return clock_answer((registers & 0xFFFFFFFFFFFF) | (uint64_t)state.tap << 48, 0, serial[pointer], 0);
-    return clock_answer((registers & ~((uint64_t)255 << 48)) | (uint64_t)(uint8_t)(pointer + 1) << 48, state.tap, serial[pointer], 0);
+    if (state.waiting && !((pointer + 1u) & ((FAULT == 11 ? 128 : stop) - 1)))
+        return clock_answer((registers & 0xFFFFFFFFFFFF) | (uint64_t)state.tap << 48, stop << 8, serial[pointer], 0);
+    return clock_answer((registers & ~((uint64_t)255 << 48)) | (uint64_t)(uint8_t)(pointer + 1) << 48, tap_and_stop, serial[pointer], 0);
 }
 
 /* ---- palette accesses: the registers as one number, from the lowest byte up address, phase, red, green, blue, mask, the byte answered */

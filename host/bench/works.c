@@ -65,15 +65,15 @@ static void plan_words(void)
 
 /* ---- clocks */
 
-static void run_panel(uint32_t blank)
+static void run_panel(linkshoar_vram state, uint32_t blank)
 {
-    linkshoar_shown r = linkshoar_panel_run(ready(), serial, 256, linkshoar_palette_fresh(), table, 768, 512, blank, out, sizeof out);
+    linkshoar_shown r = linkshoar_panel_run(state, serial, 256, linkshoar_palette_fresh(), table, 768, 512, blank, out, sizeof out);
     sink += r.number + out[5];
 }
 
 static void show_panel(void)
 {
-    run_panel(0);
+    run_panel(ready(), 0);
 }
 
 static void show_panel_six(void)
@@ -82,9 +82,16 @@ static void show_panel_six(void)
     sink += r.number + out[5];
 }
 
+static void show_panel_16(void)
+{
+    linkshoar_vram state = ready();
+    state.stop = 16;
+    run_panel(state, 0);
+}
+
 static void blank_panel(void)
 {
-    run_panel(1);
+    run_panel(ready(), 1);
 }
 
 static void clock_serial(void)
@@ -132,6 +139,7 @@ const work linkshoar_works[WORKS] = {
     {"planned word", plan_words, 1024},
     {"panel pixel shown", show_panel, 512},
     {"panel pixel shown, six bits", show_panel_six, 512},
+    {"panel pixel shown, partitions of 16", show_panel_16, 512},
     {"panel pixel blanked", blank_panel, 512},
     {"serial clock", clock_serial, 1024},
     {"palette write", write_palette, 1024},

@@ -10,7 +10,7 @@ typedef struct {
     unsigned units; /* that one run does */
 } work;
 
-enum { WORKS = 14, WORDS = 262144, FIELDS = 4096 };
+enum { WORKS = 15, WORDS = 262144, FIELDS = 4096 };
 
 extern const work linkshoar_works[WORKS];
 

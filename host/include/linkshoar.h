@@ -6,9 +6,9 @@
  * refuses with a number, and a refusal changes nothing that was lent, hands the state back as it came and answers zeros
  * besides, but for the place in a list.
  *
- * What C owes: lengths that are true, in words or bytes as the pointer's type is; slices that do not overlap; yes-or-no bytes of 0 or 1
- * inside a state (a state with another is refused with 1). A yes-or-no argument takes any number. Null with length 0 is a lawful empty
- * slice; but a lent linkshoar_palette * is never null, and it stands apart from the table.
+ * What C owes: lengths that are true, in words or bytes as the pointer's type is; slices that do not overlap; yes-or-no bytes of 0 or 1 and
+ * a stop of 16, 32, 64 or 128 inside a state (a state with another is refused with 1). A yes-or-no argument takes any number. Null with
+ * length 0 is a lawful empty slice; but a lent linkshoar_palette * is never null, and it stands apart from the table.
  *
  * Answers are compared member by member: the bytes between the members of a struct are not determined.
  *
@@ -29,7 +29,12 @@
 extern "C" {
 #endif
 
-/* Since 4.5.0 linkshoar_panel_run writes red, green and blue in eight bits, 0 to 255, and no longer in six, 0 to 63. A program that relied on
+/* Since 4.6.0 linkshoar_vram has a last member, stop: the length of a partition of the serial register. Compiled again, a program that takes
+ * its states from linkshoar_vram_fresh and from answers need not change. One that makes a linkshoar_vram itself, or keeps its members one by
+ * one, must: stop is 128 where no list has set it, and a state with a stop of 0, as {0} has, is refused with 1. The struct has its old size:
+ * a state that an older program kept as bytes has any byte there, and 128 is to be put in its place. In a list tag 9 is no longer unknown,
+ * and number 19 is new.
+ * Since 4.5.0 linkshoar_panel_run writes red, green and blue in eight bits, 0 to 255, and no longer in six, 0 to 63. A program that relied on
  * six bits must change, and it compiles unchanged, so look for every call: it calls linkshoar_panel_run_six, which takes the same arguments
  * and answers what linkshoar_panel_run answered before; or, if it widened the six bits itself, it leaves that to linkshoar_panel_run, which
  * makes 4 * v + v / 16 of v. One that widened by another rule and must keep its colours calls linkshoar_panel_run_six.
@@ -38,7 +43,7 @@ extern "C" {
  * program that fills both bytes with FFFF to show entry 255 fills them with 00FF.
  * Since 4.3.0 the two palette reads take the table, and after a read of blue the colour registers take the next entry and the address goes
  * up by one: a program that then reads the same entry again, writes colours or reads the address sets the address first. */
-#define LINKSHOAR_VERSION "4.5.0"
+#define LINKSHOAR_VERSION "4.6.0"
 
 /* The numbers given back. Where several apply the lowest is given; in a list the first bad field wins, then its lowest number. */
 enum {
@@ -59,7 +64,8 @@ enum {
     LINKSHOAR_RUN_OVER = 14,
     LINKSHOAR_BUFFER_SHORT = 15,
     LINKSHOAR_SETTING_OTHER = 16,
-    LINKSHOAR_VIDEO_OFF_OR_OVERRIDE = 17
+    LINKSHOAR_VIDEO_OFF_OR_OVERRIDE = 17,
+    LINKSHOAR_PARTITION_OTHER = 19 /* there is no 18 */
 };
 
 /* Sizes. */
@@ -109,7 +115,8 @@ typedef struct {
     uint8_t persistent;    /* 1 from a mask load to a reset refresh */
     uint8_t loaded;        /* 1 once a full transfer has been made */
     uint8_t pointer;       /* the place in the serial register that the next clock reads */
-    uint8_t waiting, tap;  /* waiting: 1 where a split transfer's tap waits for the end of the pointer's half; else both are 0 */
+    uint8_t waiting, tap;  /* waiting: 1 where a split transfer's tap waits for the end of the pointer's partition; else both are 0 */
+    uint8_t stop;          /* the length of a partition of the serial register: 16, 32, 64 or 128 */
 } linkshoar_vram;
 
 /* The palette's registers. */
@@ -130,7 +137,7 @@ typedef struct {
 typedef struct {
     linkshoar_vram state;
     uint32_t number;
-    uint64_t place; /* of 4 to 10: the offset of the field that is refused; else 0 */
+    uint64_t place; /* of 4 to 10, and 19: the offset of the field that is refused; else 0 */
 } linkshoar_ran;
 
 typedef struct {
@@ -193,10 +200,12 @@ typedef struct {
  *   5  reset refresh     0
  *   6  full transfer     4       row 2, half 1, tap 1
  *   7  split transfer    4       row 2, half 1, tap 1
+ *   9  stop points       1       partition length 1
  *
  * row: below the rows fitted. column: 0 to 511. strobes: the bytes of the word that are written, one of LINKSHOAR_STROBES_. masking: one of
  * LINKSHOAR_MASKING_. mask: the bits that a masked write may change, unless the mask register is persistent and so in force instead; 0 for
- * a plain write. half: of the row, 0 columns 0 to 255, 1 columns 256 to 511. tap: a place, 0 to 255; of a split transfer 0 to 127. */
+ * a plain write. half: of the row, 0 columns 0 to 255, 1 columns 256 to 511. tap: a place, 0 to 255; of a split transfer 0 to 127.
+ * partition length: 16, 32, 64 or 128. */
 enum {
     LINKSHOAR_TAG_WORD_WRITE = 1,
     LINKSHOAR_TAG_BLOCK_WRITE = 2,
@@ -204,7 +213,8 @@ enum {
     LINKSHOAR_TAG_LOAD_MASK = 4,
     LINKSHOAR_TAG_RESET_REFRESH = 5,
     LINKSHOAR_TAG_FULL_TRANSFER = 6,
-    LINKSHOAR_TAG_SPLIT_TRANSFER = 7
+    LINKSHOAR_TAG_SPLIT_TRANSFER = 7,
+    LINKSHOAR_TAG_STOP_POINTS = 9
 };
 
 enum {
@@ -218,7 +228,7 @@ enum {
     LINKSHOAR_MASKING_MASKED = 1
 };
 
-/* What the seven functions below have in common. */
+/* What the eight functions below have in common. */
 static inline void linkshoar_put_pair(uint8_t *at, uint16_t number)
 {
     at[0] = (uint8_t)(number >> 8);
@@ -259,7 +269,7 @@ static inline size_t linkshoar_put_transfer(uint8_t *at, uint8_t tag, uint16_t r
     return linkshoar_put_head(at, tag, 4);
 }
 
-/* Each of the seven writes one field at `at` and answers how many bytes that is. It writes what it is given: linkshoar_list_run judges. An
+/* Each of the eight writes one field at `at` and answers how many bytes that is. It writes what it is given: linkshoar_list_run judges. An
  * argument is as wide as its place in the field, and C cuts a wider number. */
 
 /* 13 bytes: the bits of one word that strobes and mask allow take the data's. */
@@ -289,7 +299,7 @@ static inline size_t linkshoar_put_load_mask(uint8_t *at, uint16_t data, uint8_t
     return linkshoar_put_load(at, LINKSHOAR_TAG_LOAD_MASK, data, strobes);
 }
 
-/* 3 bytes: the mask register stops being persistent. */
+/* 3 bytes: the mask register stops being persistent, and a partition has 128 places again: a host that uses stop points sets them anew. */
 static inline size_t linkshoar_put_reset_refresh(uint8_t *at)
 {
     return linkshoar_put_head(at, LINKSHOAR_TAG_RESET_REFRESH, 0);
@@ -302,15 +312,25 @@ static inline size_t linkshoar_put_full_transfer(uint8_t *at, uint16_t row, uint
 }
 
 /* 7 bytes: the half of the serial register that does not hold the pointer takes the same places of half a row, and the tap, counted from
- * that half's start, waits: the pointer goes there from the end of its own half. */
+ * that half's start, waits: the pointer goes there from the end of its partition. */
 static inline size_t linkshoar_put_split_transfer(uint8_t *at, uint16_t row, uint8_t half, uint8_t tap)
 {
     return linkshoar_put_transfer(at, LINKSHOAR_TAG_SPLIT_TRANSFER, row, half, tap);
 }
 
+/* 4 bytes: from now on a partition of the serial register has so many places, and its last is a stop point: from there the pointer goes to
+ * a waiting tap, and on to the next place where none waits. A tap that waits already stays. So a host that draws in tiles shows a row of one
+ * tile from one half while a split transfer brings the next tile's to the other; a pointer that is to leave at every stop point needs one
+ * before each. Columns are named as ever: the part's exchange of column bits 7 and 8 in this mode is not made. */
+static inline size_t linkshoar_put_stop_points(uint8_t *at, uint8_t length)
+{
+    at[3] = length;
+    return linkshoar_put_head(at, LINKSHOAR_TAG_STOP_POINTS, 1);
+}
+
 /* ---- Calls */
 
-/* The states at power-on: zeros, and a pixel mask of 255. */
+/* The states at power-on: zeros, a partition of 128 places, and a pixel mask of 255. */
 linkshoar_vram linkshoar_vram_fresh(void);
 linkshoar_palette linkshoar_palette_fresh(void);
 
@@ -321,15 +341,15 @@ linkshoar_palette linkshoar_palette_fresh(void);
 linkshoar_filled linkshoar_fill(uint32_t rows, uint32_t first_row, uint32_t end_row, uint32_t first_column, uint32_t end_column,
                                 uint16_t mask, uint16_t colour, uint32_t persistent, uint8_t *list, size_t length);
 
-/* Checks a list whole, then runs it in order; length: the list's bytes. Refused with 1 to 10. */
+/* Checks a list whole, then runs it in order; length: the list's bytes. Refused with 1 to 10, 19. */
 linkshoar_ran linkshoar_list_run(linkshoar_vram state, uint16_t *memory, size_t words, uint16_t *serial, size_t serial_words,
                                  const uint8_t *list, size_t length);
 
 /* Reads a word; a byte not strobed is 0. strobes: one of LINKSHOAR_STROBES_. Refused with 2, 5, 6, 7. */
 linkshoar_word linkshoar_word_read(const uint16_t *memory, size_t words, uint32_t row, uint32_t column, uint32_t strobes);
 
-/* One serial clock: answers the word at the pointer, which then moves: to the next place, 255 going to 0, but from the end of a half, 127
- * or 255, to the waiting tap if there is one. Refused with 1, 3, 10. */
+/* One serial clock: answers the word at the pointer, which then moves: to the next place, 255 going to 0, but from the last place of a
+ * partition (127 and 255 where it has 128 places) to the waiting tap if there is one. Refused with 1, 3, 10. */
 linkshoar_clocked linkshoar_serial_clock(linkshoar_vram state, const uint16_t *serial, size_t serial_words);
 
 /* A run of 0 to 512 clocks to the panel: red, green, blue of each word at the start of out, zeros where blank is not 0. linkshoar_panel_run
@@ -426,6 +446,7 @@ static inline const char *linkshoar_strerror(uint32_t number)
     case LINKSHOAR_BUFFER_SHORT: return "answer buffer too short";
     case LINKSHOAR_SETTING_OTHER: return "setting out of range, or page mode together with interleaved update";
     case LINKSHOAR_VIDEO_OFF_OR_OVERRIDE: return "no word is fetched with video off or in override";
+    case LINKSHOAR_PARTITION_OTHER: return "partition length not 16, 32, 64 or 128";
     default: return "unknown number";
     }
 }

@@ -82,6 +82,11 @@ void sow(uint64_t from)
 
 /* ---- comparing */
 
+int given(uint32_t number)
+{
+    return number < NUMBERS && number != 18;
+}
+
 void count(uint32_t number)
 {
     calls++;
@@ -98,7 +103,7 @@ void differ(const char *what)
 int vram_same(linkshoar_vram a, linkshoar_vram b)
 {
     return a.colour == b.colour && a.mask == b.mask && a.persistent == b.persistent && a.loaded == b.loaded && a.pointer == b.pointer &&
-           a.waiting == b.waiting && a.tap == b.tap;
+           a.waiting == b.waiting && a.tap == b.tap && a.stop == b.stop;
 }
 
 int palette_same(linkshoar_palette a, linkshoar_palette b)

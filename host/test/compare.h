@@ -4,7 +4,7 @@
 
 #include "linkshoar.h"
 
-enum { NUMBERS = 18 }; /* 0 to 17 are given */
+enum { NUMBERS = 20 }; /* 0 to 19, but for 18, are given */
 
 extern unsigned long long calls, seen[NUMBERS];
 
@@ -25,6 +25,7 @@ void some_bytes(uint8_t *a, uint8_t *b, size_t n);
 uint16_t *words_of(uint16_t *at, size_t n); /* the slice as it is lent: null where it is empty */
 uint8_t *bytes_of(uint8_t *at, size_t n);
 
+int given(uint32_t number); /* whether any call gives it */
 void count(uint32_t number);
 void differ(const char *what); /* prints it and ends the program with 1 */
 int vram_same(linkshoar_vram a, linkshoar_vram b); /* member by member: the bytes between members are not determined */

@@ -105,6 +105,43 @@ static void every_part(void)
     both_panel_run_six(loaded(), 256, linkshoar_palette_fresh(), 768, 256, 0, 768);
 }
 
+/* Every length, 0 to 255, in a field and in a state, with the pointer at 15 and a tap waiting. */
+static void every_length(void)
+{
+    for (unsigned length = 0; length < 256; length++) {
+        linkshoar_vram s = loaded();
+        size_t n = linkshoar_put_stop_points(bytes_a, (uint8_t)length);
+        memcpy(bytes_b, bytes_a, n);
+        s.pointer = 15;
+        s.waiting = 1;
+        s.tap = 133;
+        both_list_run(s, 512, 256, n);
+        s.stop = (uint8_t)length;
+        both_list_run(s, 512, 256, 0);
+        both_serial_clock(s, 256);
+        both_panel_run(s, 256, linkshoar_palette_fresh(), 768, 0, 0, 0);
+        both_panel_run_six(s, 256, linkshoar_palette_fresh(), 768, 1, 0, 3);
+    }
+}
+
+/* A run from every place, in partitions of each length, with a tap waiting and with none: past several stop points, and round. */
+static void every_place(void)
+{
+    for (unsigned i = 0; i < 256; i++)
+        serial_a[i] = serial_b[i] = (uint16_t)i;
+    for (unsigned length = 16; length <= 128; length *= 2)
+        for (unsigned pointer = 0; pointer < 256; pointer++)
+            for (unsigned waiting = 0; waiting < 2; waiting++) {
+                linkshoar_vram s = loaded();
+                s.stop = (uint8_t)length;
+                s.pointer = (uint8_t)pointer;
+                s.waiting = (uint8_t)waiting;
+                s.tap = (uint8_t)(waiting ? (pointer < 128 ? 128 : 0) + pointer * 7 % 128 : 0);
+                both_serial_clock(s, 256);
+                both_panel_run(s, 256, linkshoar_palette_fresh(), 768, 300, 0, 900);
+            }
+}
+
 static void palette_edges(void)
 {
     linkshoar_palette last = linkshoar_palette_fresh();
@@ -127,5 +164,7 @@ void try_edges(void)
     panel_edges();
     every_word();
     every_part();
+    every_length();
+    every_place();
     palette_edges();
 }

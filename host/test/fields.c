@@ -4,7 +4,7 @@
 
 #include <string.h>
 
-static const unsigned length[8] = {0, 10, 10, 3, 3, 0, 4, 4};
+static const unsigned tags[] = {1, 2, 3, 4, 5, 6, 7, 9}, length[10] = {0, 10, 10, 3, 3, 0, 4, 4, 0, 1};
 
 /* Numbers at random for every member that the tag's body has. */
 static model_field some_field(unsigned tag)
@@ -22,12 +22,14 @@ static model_field some_field(unsigned tag)
         f.data = any() & 0xFFFF;
         f.strobes = any() & 0xFF;
     }
-    if (tag >= 6) {
+    if (tag == 6 || tag == 7) {
         f.half = any() & 0xFF;
         f.tap = any() & 0xFF;
     }
-    if (tag <= 2 || tag >= 6)
+    if (tag <= 2 || tag == 6 || tag == 7)
         f.row = any() & 0xFFFF;
+    if (tag == 9)
+        f.stop = any() & 0xFF;
     return f;
 }
 
@@ -42,16 +44,17 @@ static size_t put(uint8_t *at, model_field f)
     case LINKSHOAR_TAG_LOAD_MASK: return linkshoar_put_load_mask(at, data, strobes);
     case LINKSHOAR_TAG_RESET_REFRESH: return linkshoar_put_reset_refresh(at);
     case LINKSHOAR_TAG_FULL_TRANSFER: return linkshoar_put_full_transfer(at, row, half, tap);
-    default: return linkshoar_put_split_transfer(at, row, half, tap);
+    case LINKSHOAR_TAG_SPLIT_TRANSFER: return linkshoar_put_split_transfer(at, row, half, tap);
+    default: return linkshoar_put_stop_points(at, (uint8_t)f.stop);
     }
 }
 
 void try_fields(void)
 {
     for (int n = 0; n < 2000; n++)
-        for (unsigned tag = 1; tag <= 7; tag++) {
-            model_field f = some_field(tag);
-            size_t bytes = 3 + length[tag];
+        for (size_t k = 0; k < sizeof tags / sizeof *tags; k++) {
+            model_field f = some_field(tags[k]);
+            size_t bytes = 3 + length[tags[k]];
             some_bytes(bytes_a, bytes_b, LINKSHOAR_FIELD_BYTES);
             if (put(bytes_a, f) != bytes)
                 differ("the bytes that a function answers which writes a field");

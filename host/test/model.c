@@ -9,9 +9,20 @@ static int bit(uint32_t n, int b)
     return (int)(n >> b & 1);
 }
 
+/* 16 and its doubles up to a half. */
+static int partition(unsigned length)
+{
+    for (unsigned n = 16; n <= 128; n += n)
+        if (length == n)
+            return 1;
+    return (FAULT == 31 && length == 8) || (FAULT == 38 && length == 0); /* a length of 8, or of 0, accepted */
+}
+
 static int vram_allowed(linkshoar_vram s)
 {
     if (s.persistent > 1 || s.loaded > 1 || s.waiting > 1)
+        return 0;
+    if (FAULT != 35 && !partition(s.stop)) /* the stored length not tested */
         return 0;
     if (s.waiting == 0)
         return s.tap == 0;
@@ -35,6 +46,7 @@ linkshoar_vram model_vram_fresh(void)
 {
     linkshoar_vram s;
     memset(&s, 0, sizeof s);
+    s.stop = 128;
     return s;
 }
 
@@ -60,6 +72,8 @@ static int body_bytes(int tag)
     case 3: case 4: return 3;
     case 5: return 0;
     case 6: case 7: return 4;
+    case 8: return FAULT == 33 ? 1 : -1; /* tag 8 known */
+    case 9: return 1;
     default: return -1;
     }
 }
@@ -88,6 +102,9 @@ model_field model_field_read(const uint8_t *f)
         r.row = pair(b);
         r.half = b[2];
         r.tap = b[3];
+        break;
+    case 9:
+        r.stop = b[0];
         break;
     default:
         break;
@@ -124,6 +141,8 @@ static uint32_t field_number(const uint8_t *bytes, size_t left, size_t rows, int
         if (f.half > 1 || f.tap > 127)
             return 9;
         return loaded ? 0 : 10;
+    case 9:
+        return partition(f.stop) && (FAULT != 34 || f.stop != 128) ? 0 : 19; /* a length of 128 refused */
     default:
         return 0;
     }
@@ -186,6 +205,8 @@ static void run_field(linkshoar_vram *s, uint16_t *memory, uint16_t *serial, mod
         s->persistent = 1;
         break;
     case 5:
+        if (FAULT != 32 && (FAULT != 37 || s->persistent)) /* the length kept; kept where no mask was persistent */
+            s->stop = 128;
         s->persistent = 0;
         break;
     case 6:
@@ -196,7 +217,7 @@ static void run_field(linkshoar_vram *s, uint16_t *memory, uint16_t *serial, mod
         s->waiting = 0;
         s->tap = 0;
         break;
-    default: {
+    case 7: {
         unsigned h = s->pointer < 128 ? 1 : 0;
 #if FAULT == 4 /* a second split transfer before the boundary ignored */
         if (s->waiting)
@@ -206,7 +227,16 @@ static void run_field(linkshoar_vram *s, uint16_t *memory, uint16_t *serial, mod
             serial[128 * h + i] = memory[512 * f.row + 256 * f.half + 128 * h + i];
         s->waiting = 1;
         s->tap = (uint8_t)(128 * h + f.tap);
+        break;
     }
+    case 9:
+        s->stop = (uint8_t)f.stop;
+#if FAULT == 36 /* stop points drop a waiting tap */
+        s->waiting = s->tap = 0;
+#endif
+        break;
+    default:
+        break;
     }
 }
 
@@ -260,9 +290,21 @@ linkshoar_word model_word_read(const uint16_t *memory, size_t words, uint32_t ro
     return r;
 }
 
+/* The last place of a partition: one of those that lie a length apart. */
+static int stop_point(linkshoar_vram s)
+{
+#if FAULT == 30 /* the tap taken at a half's end only: the rule before M-107 */
+    s.stop = 128;
+#endif
+    for (unsigned last = s.stop - 1u; last < 256; last += s.stop)
+        if (s.pointer == last)
+            return 1;
+    return 0;
+}
+
 static void clock_once(linkshoar_vram *s)
 {
-    if ((s->pointer == 127 || s->pointer == 255) && s->waiting) {
+    if (stop_point(*s) && s->waiting) {
         s->pointer = s->tap;
         s->waiting = 0;
         s->tap = 0;

@@ -23,17 +23,19 @@ static linkshoar_vram some_vram(void)
     s.mask = (uint16_t)any();
     s.persistent = (uint8_t)below(2);
     s.loaded = (uint8_t)!chance(4);
-    s.pointer = (uint8_t)(chance(3) ? 127 + 128 * below(2) - below(3) : any());
+    s.stop = (uint8_t)(chance(3) ? 128 : 16u << below(4));
+    s.pointer = (uint8_t)(chance(3) ? s.stop * (1 + below(256u / s.stop)) - 1 - below(3) : any());
     if (s.loaded && chance(2)) {
         s.waiting = 1;
         s.tap = (uint8_t)(below(128) + (s.pointer < 128 ? 128 : 0));
     }
     if (chance(20)) /* a state that no rule allows, or that no state can be */
-        switch (below(5)) {
+        switch (below(6)) {
         case 0: s.persistent = (uint8_t)any(); break;
         case 1: s.loaded = (uint8_t)any(); break;
         case 2: s.waiting = (uint8_t)below(4); break;
         case 3: s.tap = (uint8_t)any(); break;
+        case 4: s.stop = (uint8_t)(chance(2) ? 8 * below(32) : any()); break;
         default: s.pointer = (uint8_t)any(); break;
         }
     return s;
@@ -61,14 +63,15 @@ static size_t put_field(uint8_t *at, uint32_t rows)
     uint16_t row = (uint16_t)below(rows), column = (uint16_t)below(512), data = (uint16_t)any();
     uint8_t masking = (uint8_t)below(2), strobes = (uint8_t)(1 + below(3)), half = (uint8_t)below(2);
     uint16_t mask = (uint16_t)(masking ? any() : 0);
-    switch (1 + below(7)) {
+    switch (1 + below(8)) {
     case LINKSHOAR_TAG_WORD_WRITE: return linkshoar_put_word_write(at, row, column, data, masking, mask, strobes);
     case LINKSHOAR_TAG_BLOCK_WRITE: return linkshoar_put_block_write(at, row, column, data, masking, mask, strobes);
     case LINKSHOAR_TAG_LOAD_COLOUR: return linkshoar_put_load_colour(at, data, strobes);
     case LINKSHOAR_TAG_LOAD_MASK: return linkshoar_put_load_mask(at, data, strobes);
     case LINKSHOAR_TAG_RESET_REFRESH: return linkshoar_put_reset_refresh(at);
     case LINKSHOAR_TAG_FULL_TRANSFER: return linkshoar_put_full_transfer(at, row, half, (uint8_t)any());
-    default: return linkshoar_put_split_transfer(at, row, half, (uint8_t)below(128));
+    case LINKSHOAR_TAG_SPLIT_TRANSFER: return linkshoar_put_split_transfer(at, row, half, (uint8_t)below(128));
+    default: return linkshoar_put_stop_points(at, (uint8_t)(16u << below(4)));
     }
 }
 
@@ -84,7 +87,7 @@ static size_t some_list(uint32_t rows)
         if (chance(3))
             cut = below(14) % (bytes + 1);
         else
-            bytes_a[below((uint32_t)bytes)] = (uint8_t)(chance(2) ? below(9) : any());
+            bytes_a[below((uint32_t)bytes)] = (uint8_t)(chance(2) ? below(11) : any());
     }
     memcpy(bytes_b, bytes_a, bytes);
     return bytes - cut;
@@ -154,7 +157,7 @@ static void try_texts(void)
 {
     for (uint32_t n = 0; n < NUMBERS; n++)
         for (uint32_t m = n + 1; m <= NUMBERS; m++)
-            if (!strcmp(linkshoar_strerror(n), linkshoar_strerror(m)))
+            if (given(n) && !strcmp(linkshoar_strerror(n), linkshoar_strerror(m)))
                 differ("linkshoar_strerror");
 }
 
@@ -189,10 +192,11 @@ int main(int argc, char **argv)
     same_all();
     printf("%llu calls, no difference; by number:", calls);
     int all = 1;
-    for (int n = 0; n < NUMBERS; n++) {
-        printf(" %d: %llu", n, seen[n]);
-        all = all && seen[n];
-    }
+    for (uint32_t n = 0; n < NUMBERS; n++)
+        if (given(n)) {
+            printf(" %u: %llu", n, seen[n]);
+            all = all && seen[n];
+        }
     printf("\n");
     if (!all) {
         printf("a number was never given: the run shows too little\n");

@@ -3,8 +3,8 @@
 #define TRIES_H
 
 void try_fill(void);       /* fill.c: the planner's call */
-void try_edges(void);      /* edges.c: every slice of every call empty, one short and one long, a memory of 513 rows; every word shown, and every
-                              byte as each part at both widths */
+void try_edges(void);      /* edges.c: every slice of every call empty, one short and one long, a memory of 513 rows; every word shown, every
+                              byte as each part at both widths; every partition length, and a run from every place */
 void try_fields(void);     /* fields.c: the header's functions that write a field, against the second implementation's reading of it */
 void try_saved(void);      /* saved.c: a palette saved by reading, written back and compared with the table's own bytes */
 void try_controller(void); /* controller.c: a random session of the Am8150 */

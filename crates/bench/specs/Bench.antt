@@ -1,8 +1,8 @@
--- The starred bench cases and M-102's hold, by computation over the definitions that the contracts cite. Assumes nothing.
+-- The starred bench cases, M-102's and ours for M-107 hold, by computation over the definitions that the contracts cite. Assumes nothing.
 use mathlib.Core.Path.{refl}
 use Rattle.words.specs.Bit.{bit, ofBits}
 use Rattle.words.specs.Word.{merged, covers, lets}
-use Rattle.refusals.specs.Refusal.{writeRefusal, loadRefusal, fullRefusal, splitRefusal}
+use Rattle.refusals.specs.Refusal.{writeRefusal, loadRefusal, fullRefusal, splitRefusal, stopRefusal}
 use Rattle.vram.specs.State.{ruled}
 use Rattle.vram.specs.Memory.{put, puts, copied}
 use Rattle.vram.specs.Board.{effect}
@@ -24,5 +24,38 @@ use Rattle.planner.specs.Calls.{fillRefusal, fillCall}
 use Rattle.bench.specs.Cases.{starred, Every}
 
 pub starred-cases-hold : Every starred
-unfolding bit ofBits merged covers lets writeRefusal loadRefusal fullRefusal splitRefusal ruled put puts copied effect given refusal number stepBy runBy lengthOf clockIn cycleCall clockRefusal clockCall tagOf paletteRuled afterWrite tableAfterWrite byteRead afterRead accessRefusal writeCall readCall session word known lenOf cycleOf whole fieldOf parts encode encodeAll bodyOf cycles inside touched picked columnsOf plan fillRefusal fillCall
-starred-cases-hold = (refl, (refl, (refl, (refl, (refl, (refl, (refl, (refl, ((refl, refl, refl), ((refl, refl, refl), ((refl, refl, refl), ((λ m r h k. (rw (h, k), rw (h, k))), (refl, tt)))))))))))))
+unfolding bit ofBits merged covers lets writeRefusal loadRefusal fullRefusal splitRefusal stopRefusal ruled put puts copied effect given refusal number stepBy runBy lengthOf clockIn cycleCall clockRefusal clockCall tagOf paletteRuled afterWrite tableAfterWrite byteRead afterRead accessRefusal writeCall readCall session word known lenOf cycleOf whole fieldOf parts encode encodeAll bodyOf cycles inside touched picked columnsOf plan fillRefusal fillCall
+starred-cases-hold = (
+  refl,
+  (
+    refl,
+    (
+      refl,
+      (
+        (refl, refl),
+        (
+          (refl, refl),
+          (
+            (refl, refl),
+            (
+              refl,
+              (
+                refl,
+                (
+                  (refl, refl, refl),
+                  (
+                    (refl, refl, refl),
+                    (
+                      (refl, refl, refl),
+                      ((λ m r h k. (rw (h, k), rw (h, k))), (refl, ((refl, refl), ((refl, refl), ((refl, refl), tt))))),
+                    ),
+                  ),
+                ),
+              ),
+            ),
+          ),
+        ),
+      ),
+    ),
+  ),
+)

@@ -1,16 +1,16 @@
--- The bench cases marked * in document 01, "Bench cases", in its order, and the case of change request M-102 in document 02: one list that
--- holds them and no other. Assumes nothing.
+-- The bench cases marked * in document 01, "Bench cases", in its order, the case of change request M-102 in document 02, and three of our
+-- own for M-107: one list that holds them and no other. Assumes nothing.
 use Prim.Native.Nat.{ℕ, zero, suc, _%_}
 use mathlib.Core.Path.{_≡_}
 use mathlib.Core.List.{List, [], _∷_, _++_, map}
 use lib.ListN.{length, take, replicate}
 use Rattle.vram.specs.declared.Vram.{Vram}
 use Rattle.vram.specs.declared.Cycle.{Cycle}
-use Rattle.vram.specs.declared.Cycle.the-variants.{WordWrite, BlockWrite, LoadColour, FullTransfer, SplitTransfer}
+use Rattle.vram.specs.declared.Cycle.the-variants.{WordWrite, BlockWrite, LoadColour, ResetRefresh, FullTransfer, SplitTransfer, StopPoints}
 use Rattle.vram.specs.declared.Word.{Word}
 use Rattle.vram.specs.State.{fresh, withColour}
 use Rattle.vram.specs.Board.{Board, board}
-use Rattle.vram.specs.Step.{run}
+use Rattle.vram.specs.Step.{number, step, run}
 use Rattle.vram.specs.Calls.{cycleCall, clockCall}
 use Rattle.palette.specs.declared.Palette.{Palette}
 use Rattle.palette.specs.State.{fresh as freshPalette}
@@ -26,8 +26,8 @@ use Rattle.planner.specs.Paint.{listIn}
 pub data Case : Type 0 where
   -- masking, mask and strobes of a block write, and the block's four words afterwards
   block-write : (masking mask strobes : ℕ) (words : List ℕ) → Case
-  -- transfers of row 0, and the places that so many clocks then answer
-  serial : (transfers : List Cycle) (clocks : ℕ) (places : List ℕ) → Case
+  -- transfers of row 0 and other cycles, none of them refused, and the places that so many clocks then answer
+  serial : (cycles : List Cycle) (clocks : ℕ) (places : List ℕ) → Case
   -- accesses to a fresh palette, the bytes that they answer, the state and the table afterwards
   palette : (accesses : List Access) (bytes : List ℕ) (state : Palette) (table : List ℕ) → Case
   -- columns of a fill of one row, M FFFF, not persistent, the number of cycles and the cycles
@@ -43,6 +43,11 @@ coloured m = board (withColour fresh 0xA5C3) m (replicate 256 0)
 abbrev pub places : ℕ → ℕ → List ℕ
 places at zero = []
 places at (suc n) = at ∷ places (suc at) n
+
+-- the numbers that cycles in order give back
+abbrev pub givenBack : List Cycle → Board → List ℕ
+givenBack [] b = []
+givenBack (c ∷ l) b = number c b ∷ givenBack l (step c b)
 
 -- the words that serial clocks answer, with their numbers
 abbrev pub clocked : ℕ → Vram → List ℕ → List Word
@@ -63,9 +68,10 @@ abbrev pub Holds : Case → Type 0
 Holds (block-write masking mask strobes words) =
     cycleCall (BlockWrite 0 7 0x8421 masking mask strobes) (coloured (replicate 512 0))
     ≡ record { given = 0; after = coloured (replicate 4 0 ++ words ++ replicate 504 0) }
-Holds (serial transfers clocks answered) =
-    let b = run transfers (board fresh (places 0 512) (replicate 256 0)) in
-    clocked clocks (b .state) (b .serial) ≡ done answered
+Holds (serial cycles clocks answered) =
+    let start = board fresh (places 0 512) (replicate 256 0) in
+    let b = run cycles start in
+    (givenBack cycles start ≡ replicate (length cycles) 0) × (clocked clocks (b .state) (b .serial) ≡ done answered)
 Holds (palette accesses bytes state table) =
     session accesses freshPalette numbered ≡ record { answers = map doneWith bytes; state = state; table = table }
 Holds (fill-row firstColumn endColumn cycles list) =
@@ -109,6 +115,12 @@ starred =
     -- M-102: reading one colour after writing select 3 = 255 leaves A at 1. The colour is entry 255's; the registers have taken entry 0.
     ∷ palette (write 3 255 ∷ read 1 ∷ read 1 ∷ read 1 ∷ []) (0 ∷ 61 ∷ 62 ∷ 63 ∷ [])
     (record { address = 1; phase = 0; red = 0; green = 1; blue = 2; mask = 255 }) numbered
+    -- M-107: length 16, a tap waiting, the pointer at 15: the clock there goes to the tap, which lies at 128 + 5.
+    ∷ serial (StopPoints 16 ∷ FullTransfer 0 0 15 ∷ SplitTransfer 0 0 5 ∷ []) 3 (15 ∷ 133 ∷ 134 ∷ [])
+    -- M-107: length 64 with nothing waiting walks on through its ends, 63, 127, 191 and 255, and round.
+    ∷ serial (StopPoints 64 ∷ FullTransfer 0 0 62 ∷ []) 258 (places 62 194 ++ places 0 64)
+    -- M-107: reset refresh brings 128 back: the tap set while the length was 16 is taken at 127 and not at 15, 31 and so on.
+    ∷ serial (StopPoints 16 ∷ FullTransfer 0 0 14 ∷ SplitTransfer 0 0 5 ∷ ResetRefresh ∷ []) 115 (places 14 114 ++ 133 ∷ [])
     ∷ []
 
 abbrev pub Every : List Case → Type 0

@@ -1,4 +1,4 @@
--- The starred bench cases and that of change request M-102, and that they hold.
+-- The starred bench cases, that of change request M-102 and ours for M-107, and that they hold.
 
 -- the cases, as one list
 pub mod Cases

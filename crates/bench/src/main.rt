@@ -1,4 +1,5 @@
-// Runs the bench cases of document 01 that are not proved, and more, and prints what came. The starred ones and M-102's are proved in specs/.
+// Runs the bench cases of document 01 that are not proved, and more, and prints what came. The starred ones, M-102's and ours for
+// M-107 are proved in specs/.
 ghost use mathlib.Core.Path.{_≡_};
 ghost use lib.ListN.{length};
 use planner::Filled;

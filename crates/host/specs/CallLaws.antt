@@ -1,9 +1,12 @@
--- Laws of the calls: the two ways out of each; a refusal hands the state back as it came and changes nothing lent. Assumes nothing.
+-- Laws of the calls: the two ways out of each; a refusal hands the state back as it came and changes nothing lent; another length than the
+-- four is refused. Assumes nothing.
 use Prim.Native.Nat.{ℕ}
 use mathlib.Core.Path.{_≡_, refl, sym, ap, _∙_}
-use mathlib.Core.Bool.{Bool, true, false, cond}
+use mathlib.Core.Bool.{Bool, true, false, _&&_, _||_, cond}
 use mathlib.Core.List.{List}
 use mathlib.Core.Logic.{_≢_}
+use lib.Dec.{eqb, leb}
+use Rattle.refusals.specs.Refusal.{partitionOk}
 use Rattle.vram.specs.declared.Vram.{Vram}
 use Rattle.vram.specs.Board.{Board, board}
 use Rattle.vram.specs.declared.Clocked.{Clocked as VramClocked}
@@ -134,6 +137,28 @@ module _ (s : Registers) where
       done e n =
           ap panelAnswer (sym (run-refuses parts (taken s) r p t clocks blank out (ran .answer .number) (run-number parts (taken s) r p t clocks blank out) n))
           ∙ ap (λ (u : Registers). back u (ran .answer .number)) (handed-taken s e)
+
+-- ---- a stored length that is not one of the four is 1, in every call that is given the state
+
+neither : (p : Bool) → (p && false) ≡ false
+neither true = refl
+neither false = refl
+
+module _ (s : Registers) (h : partitionOk (s .stop) ≡ false) where
+  unlawful : lawful s ≡ false
+  unfolding lawful
+  unlawful =
+      rw h (neither (((leb (s .persistent) 1 && leb (s .loaded) 1) && leb (s .waiting) 1) && (eqb (s .waiting) 1 || eqb (s .tap) 0)))
+
+  pub other-length-list : (m q list : List ℕ) → listCall s m q list ≡ listed (record { state = s; number = 1; place = 0 }) m q
+  other-length-list m q list = sym (list-excluded s unlawful m q list)
+
+  pub other-length-clock : (r : List ℕ) → clockCall s r ≡ record { state = s; word = 0; number = 1 }
+  other-length-clock r = sym (clock-excluded s unlawful r)
+
+  pub other-length-panel : (parts : ℕ → ℕ) (r : List ℕ) (p : Palette) (t : List ℕ) (clocks blank : ℕ) (out : List ℕ)
+      → panelCallBy parts s r p t clocks blank out ≡ shown (record { state = s; number = 1 }) out
+  other-length-panel parts r p t clocks blank out = sym (panel-excluded s unlawful parts r p t clocks blank out)
 
 -- ---- both runs to the panel answer the same state and number
 

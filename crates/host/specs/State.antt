@@ -3,14 +3,17 @@ use Prim.Native.Nat.{ℕ}
 use mathlib.Core.Bool.{Bool, not, _&&_, _||_, cond}
 use lib.Dec.{eqb, leb}
 use Rattle.words.specs.Bit.{digit}
+use Rattle.refusals.specs.Refusal.{partitionOk}
 use Rattle.vram.specs.declared.Vram.{Vram}
 use Rattle.vram.specs.declared.Waiting.{Waiting}
 use Rattle.vram.specs.declared.Waiting.the-variants.{None, Tap}
+use Rattle.vram.specs.State.{stopLength, stopOf}
 use Rattle.host.specs.declared.Registers.{Registers}
 
--- a `Vram` can be so: yes-or-no bytes of 0 or 1, and no tap where nothing waits
+-- a `Vram` can be so: yes-or-no bytes of 0 or 1, no tap where nothing waits, and a partition of one of the four lengths
 unfoldable pub lawful : Registers → Bool
-lawful s = ((leb (s .persistent) 1 && leb (s .loaded) 1) && leb (s .waiting) 1) && (eqb (s .waiting) 1 || eqb (s .tap) 0)
+lawful s =
+    (((leb (s .persistent) 1 && leb (s .loaded) 1) && leb (s .waiting) 1) && (eqb (s .waiting) 1 || eqb (s .tap) 0)) && partitionOk (s .stop)
 
 abbrev pub waitingOf : ℕ → ℕ → Waiting
 waitingOf waiting tap = cond (eqb waiting 0) None (Tap tap)
@@ -24,6 +27,7 @@ taken s =
       loaded = not (eqb (s .loaded) 0);
       pointer = s .pointer;
       waiting = waitingOf (s .waiting) (s .tap);
+      stop = stopOf (s .stop);
     }
 
 -- the registers with what waits: 0 none, 1 tap
@@ -37,6 +41,7 @@ handedWith v waiting tap =
       pointer = v .pointer;
       waiting = waiting;
       tap = tap;
+      stop = stopLength (v .stop);
     }
 
 abbrev pub handedBy : Waiting → Vram → Registers

@@ -25,7 +25,7 @@ use state::take;
 use vram::Vram;
 use vram::Word;
 
-// The video RAM's registers as C has them. waiting: 0 none, 1 tap.
+// The video RAM's registers as C has them. waiting: 0 none, 1 tap. stop: the length of a partition.
 #[repr(C)]
 pub struct Registers {
     pub colour: u16,
@@ -35,6 +35,7 @@ pub struct Registers {
     pub pointer: u8,
     pub waiting: u8,
     pub tap: u8,
+    pub stop: u8,
 }
 
 // The state after a list, the number given back, and the offset of the field that it is about.

@@ -2,10 +2,12 @@
 ghost use mathlib.Core.Path.{_≡_};
 ghost use Rattle.host.specs.State.{lawful, waitingOf, taken, handed};
 use crate::Registers;
+use refusals::partition_ok;
+use vram::Stop;
 use vram::Vram;
 use vram::Waiting;
 
-// Whether a `Vram` can be so: yes-or-no bytes of 0 or 1, and no tap where nothing waits.
+// Whether a `Vram` can be so: yes-or-no bytes of 0 or 1, no tap where nothing waits, and a partition of one of the four lengths.
 pub(crate) fn lawful(state: Registers) -> bool
     ensures { λ r. ⌜ r ≡ lawful state ⌝ }
 {
@@ -13,6 +15,7 @@ pub(crate) fn lawful(state: Registers) -> bool
         & (state.loaded <= 1)
         & (state.waiting <= 1)
         & ((state.waiting == 1) | (state.tap == 0))
+        & partition_ok(state.stop)
 }
 
 fn waiting_of(waiting: u8, tap: u8) -> Waiting
@@ -29,6 +32,7 @@ pub(crate) fn take(state: Registers) -> Vram
     ensures { λ r. ⌜ r ≡ taken state ⌝ }
 {
     let waiting = waiting_of(state.waiting, state.tap);
+    let stop = Stop::of(state.stop);
     Vram {
         colour: state.colour,
         mask: state.mask,
@@ -36,6 +40,7 @@ pub(crate) fn take(state: Registers) -> Vram
         loaded: state.loaded != 0,
         pointer: state.pointer,
         waiting,
+        stop,
     }
 }
 
@@ -45,6 +50,8 @@ pub(crate) fn hand(state: Vram) -> Registers
     let persistent = state.persistent as u8;
     let loaded = state.loaded as u8;
     let waiting = state.waiting;
+    let stop = state.stop;
+    let length = stop.length();
     match waiting {
         Waiting::None => Registers {
             colour: state.colour,
@@ -54,6 +61,7 @@ pub(crate) fn hand(state: Vram) -> Registers
             pointer: state.pointer,
             waiting: 0,
             tap: 0,
+            stop: length,
         },
         Waiting::Tap(tap) => Registers {
             colour: state.colour,
@@ -63,6 +71,7 @@ pub(crate) fn hand(state: Vram) -> Registers
             pointer: state.pointer,
             waiting: 1,
             tap,
+            stop: length,
         },
     }
 }

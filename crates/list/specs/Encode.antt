@@ -2,7 +2,7 @@
 use Prim.Native.Nat.{ℕ, _/_, _%_}
 use mathlib.Core.List.{List, [], _∷_, _++_}
 use Rattle.vram.specs.declared.Cycle.{Cycle}
-use Rattle.vram.specs.declared.Cycle.the-variants.{WordWrite, BlockWrite, LoadColour, LoadMask, ResetRefresh, FullTransfer, SplitTransfer}
+use Rattle.vram.specs.declared.Cycle.the-variants.{WordWrite, BlockWrite, LoadColour, LoadMask, ResetRefresh, FullTransfer, SplitTransfer, StopPoints}
 use Rattle.vram.specs.Kinds.{tagOf}
 use Rattle.list.specs.Tags.{lenOf}
 
@@ -19,6 +19,7 @@ bodyOf (LoadMask word strobes) = two word (strobes ∷ [])
 bodyOf ResetRefresh = []
 bodyOf (FullTransfer row half tap) = two row (half ∷ tap ∷ [])
 bodyOf (SplitTransfer row half tap) = two row (half ∷ tap ∷ [])
+bodyOf (StopPoints length) = length ∷ []
 
 -- tag, length, body
 unfoldable pub encode : Cycle → List ℕ

@@ -9,9 +9,9 @@ use lib.ListN.{length, drop, length-append, length-map}
 use lib.Seq.{take-append-le, take-all, drop-at}
 use borrow.Author.Tests.{le-leb, eq-eqb}
 use Rattle.vram.specs.declared.Cycle.{Cycle}
-use Rattle.vram.specs.declared.Cycle.the-variants.{WordWrite, BlockWrite, LoadColour, LoadMask, ResetRefresh, FullTransfer, SplitTransfer}
+use Rattle.vram.specs.declared.Cycle.the-variants.{WordWrite, BlockWrite, LoadColour, LoadMask, ResetRefresh, FullTransfer, SplitTransfer, StopPoints}
 use Rattle.vram.specs.Kinds.{tagOf}
-use Rattle.vram.specs.CaseLaws.{tag-word, tag-block, tag-colour, tag-mask, tag-reset, tag-full, tag-split}
+use Rattle.vram.specs.CaseLaws.{tag-word, tag-block, tag-colour, tag-mask, tag-reset, tag-full, tag-split, tag-stop}
 use Rattle.list.specs.Tags.{word, known, lenOf, cycleOf}
 use Rattle.list.specs.Fields.{Field, Reads, body, whole, fieldOf, parts, fields}
 use Rattle.list.specs.FieldLaws.{field-whole, fields-whole}
@@ -30,6 +30,7 @@ known-tag (LoadMask bits strobes) = rw (tag-mask bits strobes)
 known-tag ResetRefresh = rw tag-reset
 known-tag (FullTransfer row half tap) = rw (tag-full row half tap)
 known-tag (SplitTransfer row half tap) = rw (tag-split row half tap)
+known-tag (StopPoints n) = rw (tag-stop n)
 
 -- its body has the length of its tag
 pub body-length : (c : Cycle) → length (bodyOf c) ≡ lenOf (tagOf c)
@@ -41,6 +42,7 @@ body-length (LoadMask bits strobes) = rw (tag-mask bits strobes)
 body-length ResetRefresh = rw tag-reset
 body-length (FullTransfer row half tap) = rw (tag-full row half tap)
 body-length (SplitTransfer row half tap) = rw (tag-split row half tap)
+body-length (StopPoints n) = rw (tag-stop n)
 
 -- and says the cycle
 pub body-cycle : (c : Cycle) → cycleOf (tagOf c) (bodyOf c) ≡ c
@@ -52,6 +54,7 @@ body-cycle (LoadMask bits strobes) = simp (tag-mask bits strobes, div-add-mod')
 body-cycle ResetRefresh = rw tag-reset
 body-cycle (FullTransfer row half tap) = simp (tag-full row half tap, div-add-mod')
 body-cycle (SplitTransfer row half tap) = simp (tag-split row half tap, div-add-mod')
+body-cycle (StopPoints n) = rw (tag-stop n)
 
 -- ---- a field that was written
 

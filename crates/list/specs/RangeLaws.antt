@@ -1,14 +1,15 @@
--- Numbers and places stay within the table and the list. Assumes nothing.
+-- No number of a list is over the highest, and no place lies past the list. Assumes nothing.
 use mathlib.Core.Path.{_≡_, refl}
 use mathlib.Core.Bool.{Bool, true, false}
 use mathlib.Core.List.{List, [], _∷_}
-use mathlib.Core.Logic.{_≢_}
+use mathlib.Core.Logic.{_≢_, ⊎-elim}
 use Prim.Native.Nat.{ℕ, zero, suc, _+_, _≤_, _<_}
 use native.Mathlib.Omega.{arith}
 use lib.Dec.{eqb}
 use lib.ListN.{length, drop, length-drop}
 use borrow.Author.Tests.{eqb-true, eqb-false}
 use Rattle.refusals.specs.Refusal.{highest}
+use Rattle.refusals.specs.RefusalLaws.{refusing-most}
 use Rattle.vram.specs.Board.{Board}
 use Rattle.vram.specs.Step.{givenOf, rowsOf}
 use Rattle.vram.specs.RefusalLaws.{given-most}
@@ -19,14 +20,14 @@ use Rattle.list.specs.Meaning.{numberOf, madeBy, verdict, verdictOf}
 use Rattle.list.specs.CallLaws.{verdict-given, verdict-fields}
 use Rattle.list.specs.VerdictLaws.{size-whole, number-range, verdict-nil, verdict-good, verdict-bad}
 
--- ---- the number is one of the table's
+-- ---- no number is over the highest
 
 number-most : (rows : ℕ) (made : Bool) (f : Field) → numberOf rows made f ≤ highest
 number-most rows made f = go (eqb (numberOf rows made f) 0) refl
   where
     go : (t : Bool) → eqb (numberOf rows made f) 0 ≡ t → numberOf rows made f ≤ highest
     go true e = let z : numberOf rows made f ≡ 0 = eqb-true _ _ e in omega arith
-    go false e = number-range rows made f (eqb-false _ _ e) .1
+    go false e = ⊎-elim (λ z. omega (arith, z)) (refusing-most (numberOf rows made f)) (number-range rows made f (eqb-false _ _ e))
 
 pub verdict-most : (rows : ℕ) (made : Bool) (at : ℕ) (fs : List Field) → verdict rows made at fs .number ≤ highest
 verdict-most rows made at [] = rw (verdict-nil rows made at) (omega arith)

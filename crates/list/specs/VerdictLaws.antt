@@ -2,13 +2,13 @@
 use mathlib.Core.Path.{_≡_, refl, sym, ap, _∙_}
 use mathlib.Core.Bool.{Bool, true, false, _||_}
 use mathlib.Core.List.{List, [], _∷_}
-use mathlib.Core.Logic.{_≢_}
+use mathlib.Core.Logic.{_≢_, _⊎_, inl, inr}
 use Prim.Native.Nat.{ℕ, _+_, _≤_}
 use native.Mathlib.Omega.{arith}
 use lib.Dec.{eqb}
 use lib.ListN.{length, drop}
 use borrow.Author.Tests.{eq-eqb, ne-eqb, eqb-true}
-use Rattle.refusals.specs.Refusal.{highest}
+use Rattle.refusals.specs.Refusal.{refusing}
 use Rattle.vram.specs.Refusal.{refusal}
 use Rattle.list.specs.declared.Bad.{Bad}
 use Rattle.vram.specs.CaseLaws.{refusal-range}
@@ -41,11 +41,12 @@ pub number-not : (s : List ℕ) → whole s ≡ false → (rows : ℕ) (made : B
 unfolding numberOf
 number-not s h rows made = rw (field-not s h)
 
--- what refuses a field is 4 to the highest
-pub number-range : (rows : ℕ) (made : Bool) (f : Field) → numberOf rows made f ≢ 0 → (4 ≤ numberOf rows made f) × (numberOf rows made f ≤ highest)
+-- what refuses a field is 4, or one of the numbers that refuse a cycle
+pub number-range : (rows : ℕ) (made : Bool) (f : Field) → numberOf rows made f ≢ 0
+    → (numberOf rows made f ≡ 4) ⊎ (refusing (numberOf rows made f) ≡ true)
 unfolding numberOf
-number-range rows made (Reads c n) h = let r = refusal-range rows made c h in (omega (arith, r .0), r .1)
-number-range rows made Unreadable h = (omega arith, omega arith)
+number-range rows made (Reads c n) h = inr (refusal-range rows made c h)
+number-range rows made Unreadable h = inl refl
 
 -- an accepted field is whole
 pub accepted-whole : (s : List ℕ) (rows : ℕ) (made : Bool) → numberOf rows made (fieldOf s) ≡ 0 → whole s ≡ true

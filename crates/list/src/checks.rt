@@ -2,7 +2,7 @@
 ghost use mathlib.Core.Path.{_≡_};
 ghost use Prim.Native.Nat.{_+_, _<_};
 ghost use lib.ListN.{length};
-ghost use Rattle.refusals.specs.Refusal.{writeRefusal, loadRefusal, fullRefusal, splitRefusal};
+ghost use Rattle.refusals.specs.Refusal.{writeRefusal, loadRefusal, fullRefusal, splitRefusal, stopRefusal};
 ghost use Rattle.vram.specs.Refusal.{refusal};
 ghost use Rattle.list.specs.Tags.{byte, word, lenOf, cycleOf};
 ghost use Rattle.list.specs.Fields.{fieldOf};
@@ -13,6 +13,7 @@ use crate::fields::word_at;
 use refusals::full_refusal;
 use refusals::load_refusal;
 use refusals::split_refusal;
+use refusals::stop_refusal;
 use refusals::write_refusal;
 
 fn write_number(body: &[u8], rows: usize) -> u32
@@ -50,16 +51,27 @@ fn split_number(body: &[u8], rows: usize, loaded: bool) -> u32
     split_refusal(rows, loaded, word_at(body, 0), body[2], body[3])
 }
 
-// 5 to 10: what refuses the cycle that a body says.
+fn stop_number(body: &[u8]) -> u32
+    requires { ⌜ length (now body) ≡ 1 ⌝ }
+    ensures { λ r. ⌜ r ≡ stopRefusal (byte (now (body .entry)) 0) ⌝ }
+{
+    stop_refusal(body[0])
+}
+
+// 5 to 10, and 19: what refuses the cycle that a body says.
 fn body_number(tag: u8, body: &[u8], rows: usize, loaded: bool) -> u32
     requires { ⌜ length (now body) ≡ lenOf tag ⌝ }
     ensures { λ r. ⌜ r ≡ refusal rows loaded (cycleOf tag (now (body .entry))) ⌝ }
 {
+    // Writes first, since fills are made of them: in the match the compiler would try other tags before.
+    if (1 <= tag) & (tag <= 2) {
+        return write_number(body, rows);
+    }
     match tag {
-        1 | 2 => write_number(body, rows),
         3 | 4 => load_number(body),
         6 => full_number(body, rows),
         7 => split_number(body, rows, loaded),
+        9 => stop_number(body),
         _ => numbers::DONE,
     }
 }

@@ -21,11 +21,11 @@ pub(crate) fn word_at(bytes: &[u8], at: usize) -> u16
     wide(bytes[at]) * 256 + wide(bytes[at + 1])
 }
 
-// The tags are 1 to 7.
+// The tags are 1 to 7, and 9.
 fn known(tag: u8) -> bool
     ensures { λ r. ⌜ r ≡ known tag ⌝ }
 {
-    (1 <= tag) & (tag <= 7)
+    if tag <= 7 { 1 <= tag } else { tag == 9 }
 }
 
 // A body's length.
@@ -38,7 +38,10 @@ pub(crate) fn body_length(tag: u8) -> usize
     if tag <= 4 {
         return 3;
     }
-    if tag == 5 { 0 } else { 4 }
+    if tag == 5 {
+        return 0;
+    }
+    if tag <= 7 { 4 } else { 1 }
 }
 
 // Whether the header at the head of some bytes is good: its tag known, its length its tag's.

@@ -3,7 +3,7 @@ ghost use mathlib.Core.Path.{_≡_};
 ghost use mathlib.Core.Bool.{true};
 ghost use Prim.Native.Nat.{_+_, _<_};
 ghost use lib.ListN.{length};
-ghost use Rattle.vram.specs.declared.Cycle.the-variants.{WordWrite, BlockWrite, FullTransfer, SplitTransfer, LoadColour, LoadMask};
+ghost use Rattle.vram.specs.declared.Cycle.the-variants.{WordWrite, BlockWrite, LoadColour, LoadMask, FullTransfer, SplitTransfer, StopPoints};
 ghost use Rattle.vram.specs.Board.{board};
 ghost use Rattle.vram.specs.Step.{run};
 ghost use Rattle.list.specs.Tags.{byte, word, lenOf, cycleOf};
@@ -84,6 +84,13 @@ fn split_transfer(body: &[u8]) -> Cycle
     }
 }
 
+fn stop_points(body: &[u8]) -> Cycle
+    requires { ⌜ length (now body) ≡ 1 ⌝ }
+    ensures { λ r. ⌜ r ≡ StopPoints (byte (now (body .entry)) 0) ⌝ }
+{
+    Cycle::StopPoints { length: body[0] }
+}
+
 // The cycle that a body says.
 pub(crate) fn cycle_of(tag: u8, body: &[u8]) -> Cycle
     requires { ⌜ length (now body) ≡ lenOf tag ⌝ }
@@ -96,6 +103,7 @@ pub(crate) fn cycle_of(tag: u8, body: &[u8]) -> Cycle
         4 => load_mask(body),
         6 => full_transfer(body),
         7 => split_transfer(body),
+        9 => stop_points(body),
         _ => Cycle::ResetRefresh,
     }
 }

@@ -14,8 +14,9 @@ use Rattle.numbers.specs.BufferLaws.{take-over}
 use Rattle.vram.specs.declared.Cycle.{Cycle}
 use Rattle.vram.specs.declared.Cycle.the-variants.{LoadColour}
 use Rattle.vram.specs.Refusal.{refusal}
-use Rattle.vram.specs.CaseLaws.{word-accepted, block-accepted, colour-accepted}
-use Rattle.planner.specs.Fill.{Fill, inside, touched, picked, coveredWords, touchedBlocks, W, B, wordWrite, columnsOf, blockWrite, byWords, byBlocks, plan}
+use Rattle.vram.specs.Kinds.{tagOf}
+use Rattle.vram.specs.CaseLaws.{word-accepted, block-accepted, colour-accepted, tag-word, tag-block, tag-colour}
+use Rattle.planner.specs.Fill.{Fill, inside, touched, picked, W, B, wordWrite, columnsOf, blockWrite, byWords, byBlocks, plan}
 use Rattle.planner.specs.Calls.{askedRefusal, roomOk, fillRefusal, listOf, fillCall}
 use Rattle.planner.specs.CallLaws.{asked-first}
 use Rattle.planner.specs.Paint.{listIn}
@@ -44,7 +45,7 @@ module _ (f : Fill) (out : List ℕ) (z : fillCall f out .answer .number ≡ 0) 
   pub accepted-list : listIn (fillCall f out) ≡ listOf f
   accepted-list = ap₂ (λ (n : ℕ) (t : List ℕ). take n t) accepted-bytes accepted-buffer ∙ take-over (listOf f) out
 
--- ---- no cycle of the plan is refused
+-- ---- the cycles of the plan: word writes, or a colour load and block writes
 
 picked-says : (p : ℕ → Bool) (n at x : ℕ) → List·Memᴰ x (picked p at n) → (p x ≡ true) × (x < at + n)
 unfolding picked
@@ -57,34 +58,42 @@ picked-says p (suc n) at x m = go (p at) refl m (picked-says p n (suc at) x)
         ⊎-elim (λ q. (ap p q ∙ e, omega arith)) (λ k. let r = ih k in (r .0, omega (arith, r .1))) (List·Memᴰ·cases-cons m)
     go false e m ih = let r = ih m in (r .0, omega (arith, r .1))
 
-module _ (f : Fill) where
-  words-accepted : (c : Cycle) → List·Memᴰ c (byWords f) → (made : Bool) → refusal (f .rows) made c ≡ 0
-  words-accepted c m made =
-      let o = Memᴰ·of-map (wordWrite f) (coveredWords f) m in
-      let x : ℕ = o .0 in
-      let p = picked-says (inside f) (512 * f .rows) 0 x (o .1) in
-      subst (λ (d : Cycle). refusal (f .rows) made d ≡ 0) (o .2)
-      (word-accepted (f .rows) made (x / 512) (x % 512) (f .colour) (f .mask) (omega (arith, p .1)) (omega arith))
+-- what holds of each of these holds of every cycle of the plan
+module _ (f : Fill) (P : Cycle → Type 0) (word : (x : ℕ) → x < 512 * f .rows → P (wordWrite f x)) (load : P (LoadColour (f .colour) 3))
+    (block : (x : ℕ) → x < 128 * f .rows → P (blockWrite f x)) where
+  picked-hold : (g : ℕ → Cycle) (p : ℕ → Bool) (n : ℕ) → ((x : ℕ) → x < n → P (g x)) → (c : Cycle) → List·Memᴰ c (map g (picked p 0 n)) → P c
+  picked-hold g p n holds c m =
+      let o = Memᴰ·of-map g (picked p 0 n) m in
+      subst P (o .2) (holds (o .0) (omega (arith, picked-says p n 0 (o .0) (o .1) .1)))
 
-  blocks-accepted : (c : Cycle) → List·Memᴰ c (byBlocks f) → (made : Bool) → refusal (f .rows) made c ≡ 0
-  blocks-accepted c m made = ⊎-elim first rest (List·Memᴰ·cases-cons m)
-    where
-      first : c ≡ LoadColour (f .colour) 3 → refusal (f .rows) made c ≡ 0
-      first e = ap (refusal (f .rows) made) e ∙ colour-accepted (f .rows) made (f .colour)
-
-      rest : List·Memᴰ c (map (blockWrite f) (touchedBlocks f)) → refusal (f .rows) made c ≡ 0
-      rest k =
-          let o = Memᴰ·of-map (blockWrite f) (touchedBlocks f) k in
-          let x : ℕ = o .0 in
-          let p = picked-says (touched f) (128 * f .rows) 0 x (o .1) in
-          subst (λ (d : Cycle). refusal (f .rows) made d ≡ 0) (o .2)
-          (block-accepted (f .rows) made (x / 128) (4 * (x % 128)) (columnsOf f x) (f .mask) (omega (arith, p .1)) (omega arith))
-
-  pub plan-accepted : (c : Cycle) → List·Memᴰ c (plan f) → (made : Bool) → refusal (f .rows) made c ≡ 0
+  pub plan-holds : (c : Cycle) → List·Memᴰ c (plan f) → P c
   unfolding plan
-  plan-accepted c m made = go (eqb (f .mask) 0) (leb (W f) (1 + B f)) m
+  plan-holds c = go (eqb (f .mask) 0) (leb (W f) (1 + B f))
     where
-      go : (t u : Bool) → List·Memᴰ c (cond t [] (cond u (byWords f) (byBlocks f))) → refusal (f .rows) made c ≡ 0
+      blocks : List·Memᴰ c (byBlocks f) → P c
+      blocks m =
+          ⊎-elim (λ (e : c ≡ LoadColour (f .colour) 3). subst P (sym e) load) (picked-hold (blockWrite f) (touched f) (128 * f .rows) block c)
+          (List·Memᴰ·cases-cons m)
+
+      go : (t u : Bool) → List·Memᴰ c (cond t [] (cond u (byWords f) (byBlocks f))) → P c
       go true u m = absurd (List·Memᴰ·not-nil m)
-      go false true m = words-accepted c m made
-      go false false m = blocks-accepted c m made
+      go false true m = picked-hold (wordWrite f) (inside f) (512 * f .rows) word c m
+      go false false m = blocks m
+
+module _ (f : Fill) where
+  -- none of them is refused
+  pub plan-accepted : (c : Cycle) → List·Memᴰ c (plan f) → (made : Bool) → refusal (f .rows) made c ≡ 0
+  plan-accepted c m made =
+      plan-holds f (λ d. refusal (f .rows) made d ≡ 0)
+      (λ x h. word-accepted (f .rows) made (x / 512) (x % 512) (f .colour) (f .mask) (omega arith) (omega arith))
+      (colour-accepted (f .rows) made (f .colour))
+      (λ x h. block-accepted (f .rows) made (x / 128) (4 * (x % 128)) (columnsOf f x) (f .mask) (omega arith) (omega arith))
+      c m
+
+  -- none loads a mask, resets, transfers or sets stop points
+  pub plan-tags : (c : Cycle) → List·Memᴰ c (plan f) → tagOf c < 4
+  plan-tags =
+      plan-holds f (λ d. tagOf d < 4)
+      (λ x h. omega (arith, tag-word (x / 512) (x % 512) (f .colour) 1 (f .mask) 3))
+      (omega (arith, tag-colour (f .colour) 3))
+      (λ x h. omega (arith, tag-block (x / 128) (4 * (x % 128)) (columnsOf f x) 1 (f .mask) 3))

@@ -1,6 +1,6 @@
 -- Demand 3, second part: no accepted list that paints is shorter. For every fill that is not refused and every list of bytes that
--- paints it with one serial state and register, whatever its tags, masks, strobes and length: its cycles are at least those that the
--- fill answers. Assumes nothing.
+-- paints it with one serial state, stop points and register, whatever its tags, masks, strobes and length: its cycles are at least those
+-- that the fill answers. Assumes nothing.
 use mathlib.Core.Path.{_≡_, refl, sym, ap, subst}
 use mathlib.Core.Bool.{Bool, true, false}
 use mathlib.Core.List.{List}

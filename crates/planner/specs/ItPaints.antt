@@ -24,7 +24,7 @@ pub it-paints : (f : Fill) (out : List ℕ) → Wide f → fillCall f out .answe
 it-paints f out wide z b start =
     ap (λ (list : List ℕ). runCall list b) (accepted-list f out z) ∙ list-runs f (asked-sound f (accepted-asked f out z)) wide b start
 
--- so it is one of the lists with which the second part compares it, for every serial state that the rules allow
+-- so it is one of the lists with which the second part compares it, for every serial state and stop points that the rules allow
 pub fill-paints : (f : Fill) (out : List ℕ) → Wide f → fillCall f out .answer .number ≡ 0
     → (s : Vram) (r : List ℕ) → ruled s ≡ true → length r ≡ 256 → Paints f s r (listIn (fillCall f out))
 fill-paints f out wide z s r rule register =

@@ -26,7 +26,7 @@ abbrev pub painted : Fill → List ℕ → List ℕ
 painted f m = mapAt (λ a w. cond (inside f a) (merged w (f .colour) (bit (f .mask))) w) 0 m
 
 -- the board afterwards: the colour register holds the colour where blocks were used and is else as it was; mask register, persistence,
--- serial state and serial register are as they were
+-- serial state, stop points and serial register are as they were
 abbrev pub afterFill : Fill → Board → Board
 afterFill f b =
     board (withColour (b .state) (cond (usesBlocks f) (f .colour) (b .state .colour))) (painted f (b .memory)) (b .serial)
@@ -54,9 +54,9 @@ pub record Start (rows : ℕ) (b : Board) : Type 0 where
   pub register : length (b .serial) ≡ 256
   pub plain : b .state .persistent ≡ false
 
--- ---- a list of bytes that paints, with one serial state and register: from every memory of the rows fitted, every colour register
--- and every mask register, not persistent, it is accepted and leaves the memory that the rectangle asks for; of what else it leaves
--- nothing is asked
+-- ---- a list of bytes that paints, with one serial state, stop points and register: from every memory of the rows fitted, every colour
+-- register and every mask register, not persistent, it is accepted and leaves the memory that the rectangle asks for; of what else it
+-- leaves nothing is asked
 
 abbrev pub from : Vram → ℕ → ℕ → List ℕ → List ℕ → Board
 from s colour mask m r = board (withMask (withColour s colour) mask false) m r
@@ -72,7 +72,7 @@ pub record Paints (f : Fill) (s : Vram) (r list : List ℕ) : Type 0 where
 pub record Demanded (f : Fill) (r : Filled) (list : List ℕ) : Type 0 where
   -- it paints: the list is accepted, and running it leaves what the rectangle asks for
   pub paints : (b : Board) → Start (f .rows) b → runCall list b ≡ gives (bad 0 0) (afterFill f b)
-  -- so it is one of those with which it is compared, for every serial state that the rules allow
+  -- so it is one of those with which it is compared, for every serial state and stop points that the rules allow
   pub compared : (s : Vram) (serial : List ℕ) → ruled s ≡ true → length serial ≡ 256 → Paints f s serial list
   -- no list that paints has fewer cycles than are answered
   pub shortest : (s : Vram) (serial other : List ℕ) → Paints f s serial other → r .cycles ≤ countOf other

@@ -8,6 +8,8 @@ use Rattle.refusals.proofs.write_refusal as write-refusal
 use Rattle.refusals.proofs.load_refusal as load-refusal
 use Rattle.refusals.proofs.full_refusal as full-refusal
 use Rattle.refusals.proofs.split_refusal as split-refusal
+use Rattle.refusals.proofs.partition_ok as partition-ok
+use Rattle.refusals.proofs.stop_refusal as stop-refusal
 
 pub fitted-once : Determines fitted.signature (λ M. fitted.clauses)
 fitted-once = by-result refl (λ κs a v w. refl)
@@ -26,3 +28,9 @@ full-refusal-once = by-result refl (λ κs a v w. refl)
 
 pub split-refusal-once : Determines split-refusal.signature (λ M. split-refusal.clauses)
 split-refusal-once = by-result refl (λ κs a v w. refl)
+
+pub partition-ok-once : Determines partition-ok.signature (λ M. partition-ok.clauses)
+partition-ok-once = by-result refl (λ κs a v w. refl)
+
+pub stop-refusal-once : Determines stop-refusal.signature (λ M. stop-refusal.clauses)
+stop-refusal-once = by-result refl (λ κs a v w. refl)

@@ -1,8 +1,8 @@
-// What refuses a cycle of each kind, by its numbers alone: document 01, "Numbers given back", 2 and 5 to 10. The lowest wins: a write
-// leaves by its first test that fails, the others chain by `refuse`, the last test first. A single cycle and a list, which is judged from
-// its bytes, ask here, and the rule stands once.
+// What refuses a cycle of each kind, by its numbers alone: document 01, "Numbers given back", 2 and 5 to 10, and 19 of change request
+// M-107. The lowest wins: a write leaves by its first test that fails, the others chain by `refuse`, the last test first. A single cycle and
+// a list, which is judged from its bytes, ask here, and the rule stands once.
 ghost use mathlib.Core.Path.{_≡_};
-ghost use Rattle.refusals.specs.Refusal.{fitted, placed, writeRefusal, loadRefusal, fullRefusal, splitRefusal};
+ghost use Rattle.refusals.specs.Refusal.{fitted, placed, partitionOk, writeRefusal, loadRefusal, fullRefusal, splitRefusal, stopRefusal};
 use numbers::refuse;
 
 // 512 words to a row, 1 to 512 rows.
@@ -10,6 +10,13 @@ pub fn fitted(words: usize) -> bool
     ensures { λ r. ⌜ r ≡ fitted words ⌝ }
 {
     (512 <= words) & (words <= 262144) & (words % 512 == 0)
+}
+
+// Whether a partition can have this length: asked of a cycle, and of a state from C.
+pub fn partition_ok(length: u8) -> bool
+    ensures { λ r. ⌜ r ≡ partitionOk length ⌝ }
+{
+    (length == 16) | (length == 32) | (length == 64) | (length == 128)
 }
 
 // 5 to 7, of a word read.
@@ -72,4 +79,15 @@ pub fn split_refusal(rows: usize, loaded: bool, row: u16, half: u8, tap: u8) -> 
     let n = refuse(loaded, numbers::NOT_LOADED, numbers::DONE);
     let n = refuse((half <= 1) & (tap <= 127), numbers::HALF_OR_TAP_OVER, n);
     refuse((row as usize) < rows, numbers::ROW_NOT_FITTED, n)
+}
+
+// 19, of stop points.
+pub fn stop_refusal(length: u8) -> u32
+    ensures { λ r. ⌜ r ≡ stopRefusal length ⌝ }
+{
+    refuse(
+        partition_ok(length),
+        numbers::PARTITION_OTHER,
+        numbers::DONE,
+    )
 }

@@ -6,14 +6,15 @@ use native.Mathlib.Nat.{mod-eq-of-lt}
 use Rattle.vram.specs.declared.Vram.{Vram}
 use Rattle.vram.specs.declared.Waiting.the-variants.{None, Tap}
 use Rattle.vram.specs.Serial.{at, after, lengthOf, through, clocks}
-use Rattle.vram.specs.SerialLaws.{partition, through-within, clocksIn-within, clocksIn-none, clocksIn-through}
+use Rattle.vram.specs.Partition.{partition, within}
+use Rattle.vram.specs.SerialLaws.{through-within, clocksIn-within, clocksIn-none, clocksIn-through}
 
 module _ (s : Vram) (k : ℕ) (p : s .pointer < 256) where
   -- within the partition
   pub stays : k < through s → at s (after (s .pointer) k) (s .waiting) ≡ clocks k s
   stays h =
       let w = through-within s p .1 in
-      let l = partition s .within (s .pointer) in
+      let l = within (partition s) (s .pointer) in
       let e : (s .pointer + k) % 256 ≡ s .pointer + k = mod-eq-of-lt (omega arith) in
       ap (λ (x : ℕ). at s x (s .waiting)) e ∙ sym (clocksIn-within (lengthOf s) (partition s) k s p (omega arith))
 

@@ -3,6 +3,8 @@ use mathlib.Core.Path.{refl}
 use Rattle.numbers.specs.Determines.{Determines}
 use Rattle.numbers.specs.DeterminesLaws.{by-result, by-outcome}
 use Rattle.vram.specs.Calls.{answered}
+use Rattle.vram.proofs.Stop.of as of
+use Rattle.vram.proofs.Stop.length as length
 use Rattle.vram.proofs.Vram.fresh as fresh
 use Rattle.vram.proofs.Vram.ruled as ruled
 use Rattle.vram.proofs.Vram.cycle as cycle
@@ -10,6 +12,12 @@ use Rattle.vram.proofs.read as read
 use Rattle.vram.proofs.Vram.clock as clock
 use Rattle.vram.proofs.Vram.clocks as clocks
 use Rattle.vram.proofs.Vram.given as given
+
+pub of-once : Determines of.signature (λ M. of.clauses)
+of-once = by-result refl (λ κs a v w. refl)
+
+pub length-once : Determines length.signature (λ M. length.clauses)
+length-once = by-result refl (λ κs a v w. refl)
 
 pub fresh-once : Determines fresh.signature (λ M. fresh.clauses)
 fresh-once = by-result refl (λ κs a v w. refl)

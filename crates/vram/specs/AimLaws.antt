@@ -14,7 +14,7 @@ use Rattle.words.specs.Bit.{bit}
 use Rattle.refusals.specs.RefusalLaws.{write-zero}
 use Rattle.vram.specs.declared.Vram.{Vram}
 use Rattle.vram.specs.declared.Cycle.{Cycle}
-use Rattle.vram.specs.declared.Cycle.the-variants.{WordWrite, BlockWrite, LoadColour, LoadMask, ResetRefresh, FullTransfer, SplitTransfer}
+use Rattle.vram.specs.declared.Cycle.the-variants.{WordWrite, BlockWrite, LoadColour, LoadMask, ResetRefresh, FullTransfer, SplitTransfer, StopPoints}
 use Rattle.vram.specs.State.{fresh}
 use Rattle.vram.specs.Refusal.{refusal}
 use Rattle.vram.specs.MemoryLaws.{among}
@@ -85,6 +85,7 @@ aimed (LoadMask word strobes) s = idle (LoadMask word strobes) s refl refl refl 
 aimed ResetRefresh s = idle ResetRefresh s refl refl refl (lit≤ tt)
 aimed (FullTransfer row half tap) s = idle (FullTransfer row half tap) s refl refl refl (lit≤ tt)
 aimed (SplitTransfer row half tap) s = idle (SplitTransfer row half tap) s refl refl refl (lit≤ tt)
+aimed (StopPoints length) s = idle (StopPoints length) s refl refl refl (lit≤ tt)
 
 pub words-one : (c : Cycle) → length (wordsOf c) ≤ 1
 words-one c = aimed c fresh .one-word

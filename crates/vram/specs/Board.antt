@@ -1,4 +1,4 @@
--- What a cycle does to the board, where nothing is refused: document 01, "Cycles on the memory". Assumes nothing.
+-- What a cycle does to the board, where nothing is refused: document 01, "Cycles on the memory", and M-107. Assumes nothing.
 use Prim.Native.Nat.{ℕ, _+_, _*_, _/_}
 use mathlib.Core.Bool.{Bool, true, false, _&&_, cond}
 use mathlib.Core.List.{List}
@@ -7,9 +7,10 @@ use Rattle.words.specs.Bit.{bit}
 use Rattle.words.specs.Word.{merged, covers, lets}
 use Rattle.vram.specs.declared.Vram.{Vram}
 use Rattle.vram.specs.declared.Waiting.the-variants.{None, Tap}
+use Rattle.vram.specs.declared.Stop.the-variants.{Every128}
 use Rattle.vram.specs.declared.Cycle.{Cycle}
-use Rattle.vram.specs.declared.Cycle.the-variants.{WordWrite, BlockWrite, LoadColour, LoadMask, ResetRefresh, FullTransfer, SplitTransfer}
-use Rattle.vram.specs.State.{withColour, withMask, withSerial, other}
+use Rattle.vram.specs.declared.Cycle.the-variants.{WordWrite, BlockWrite, LoadColour, LoadMask, ResetRefresh, FullTransfer, SplitTransfer, StopPoints}
+use Rattle.vram.specs.State.{stopOf, withColour, withMask, withSerial, withStop, other}
 use Rattle.vram.specs.Memory.{put, puts, copied}
 
 -- the state, and what is lent
@@ -40,7 +41,7 @@ effect (LoadColour word strobes) b =
     board (withColour (b .state) (merged (b .state .colour) word (covers strobes))) (b .memory) (b .serial)
 effect (LoadMask word strobes) b =
     board (withMask (b .state) (merged (b .state .mask) word (covers strobes)) true) (b .memory) (b .serial)
-effect ResetRefresh b = board (withMask (b .state) (b .state .mask) false) (b .memory) (b .serial)
+effect ResetRefresh b = board (withStop (withMask (b .state) (b .state .mask) false) Every128) (b .memory) (b .serial)
 effect (FullTransfer row half tap) b =
     board (withSerial (b .state) true tap None) (b .memory) (copied (b .memory) (512 * row + 256 * half) (b .serial) 0 256)
 effect (SplitTransfer row half tap) b =
@@ -48,3 +49,4 @@ effect (SplitTransfer row half tap) b =
     board (withSerial (b .state) (b .state .loaded) (b .state .pointer) (Tap (128 * h + tap)))
     (b .memory)
     (copied (b .memory) (512 * row + 256 * half + 128 * h) (b .serial) (128 * h) 128)
+effect (StopPoints length) b = board (withStop (b .state) (stopOf length)) (b .memory) (b .serial)

@@ -1,17 +1,17 @@
 -- The definitions case by case, so that other crates need not open them. Assumes nothing.
 use mathlib.Core.Path.{_≡_, refl, ap, _∙_}
-use mathlib.Core.Bool.{Bool, _||_}
+use mathlib.Core.Bool.{Bool, true, _||_}
 use mathlib.Core.List.{List, [], _∷_}
 use mathlib.Core.Logic.{_≢_, inl, ⊎-elim}
 use Prim.Native.Nat.{ℕ, _/_, _≤_, _<_}
 use lib.Dec.{eqb}
 use Rattle.numbers.specs.RefuseLaws.{firstOf-later}
 use Rattle.vram.specs.declared.Cycle.{Cycle}
-use Rattle.vram.specs.declared.Cycle.the-variants.{WordWrite, BlockWrite, LoadColour, LoadMask, ResetRefresh, FullTransfer, SplitTransfer}
+use Rattle.vram.specs.declared.Cycle.the-variants.{WordWrite, BlockWrite, LoadColour, LoadMask, ResetRefresh, FullTransfer, SplitTransfer, StopPoints}
 use Rattle.vram.specs.Board.{Board}
-use Rattle.refusals.specs.Refusal.{highest, writeRefusal, loadRefusal, fullRefusal, splitRefusal}
+use Rattle.refusals.specs.Refusal.{refusing, writeRefusal, loadRefusal, fullRefusal, splitRefusal, stopRefusal}
 use Rattle.vram.specs.Refusal.{refusal}
-use Rattle.refusals.specs.RefusalLaws.{masked-write, Range, write-among, load-among, full-among, split-among}
+use Rattle.refusals.specs.RefusalLaws.{masked-write, Range, write-among, load-among, full-among, split-among, stop-among}
 use Rattle.vram.specs.Step.{givenOf, rowsOf, number, Engine, runBy, step, run}
 use Rattle.vram.specs.StepLaws.{run-holds}
 use Rattle.vram.specs.RuleLaws.{step-sized, run-sized, step-given}
@@ -84,6 +84,10 @@ module _ (rows : ℕ) (made : Bool) where
   unfolding refusal
   refusal-split row half tap = refl
 
+  pub refusal-stop : (length : ℕ) → refusal rows made (StopPoints length) ≡ stopRefusal length
+  unfolding refusal
+  refusal-stop length = refl
+
 -- a write that is masked, with both strobes, in the rows fitted is not refused, nor is a colour load with both strobes
 
 module _ (rows : ℕ) (made : Bool) where
@@ -97,7 +101,7 @@ module _ (rows : ℕ) (made : Bool) where
   unfolding loadRefusal
   colour-accepted word = refusal-colour rows made word 3
 
--- what refuses a cycle is 5 to the highest
+-- what refuses a cycle is one of its numbers, 5 to 10 and 19
 
 refusal-among : (rows : ℕ) (made : Bool) (c : Cycle) → Range (refusal rows made c)
 unfolding refusal
@@ -108,8 +112,9 @@ refusal-among rows made (LoadMask word strobes) = load-among strobes
 refusal-among rows made ResetRefresh = inl refl
 refusal-among rows made (FullTransfer row half tap) = full-among rows row half
 refusal-among rows made (SplitTransfer row half tap) = split-among rows made row half tap
+refusal-among rows made (StopPoints length) = stop-among length
 
-pub refusal-range : (rows : ℕ) (made : Bool) (c : Cycle) → refusal rows made c ≢ 0 → (5 ≤ refusal rows made c) × (refusal rows made c ≤ highest)
+pub refusal-range : (rows : ℕ) (made : Bool) (c : Cycle) → refusal rows made c ≢ 0 → refusing (refusal rows made c) ≡ true
 refusal-range rows made c h = ⊎-elim (λ e. absurd (h e)) (λ r. r) (refusal-among rows made c)
 
 -- ---- tags
@@ -141,6 +146,10 @@ tag-full row half tap = refl
 pub tag-split : (row half tap : ℕ) → tagOf (SplitTransfer row half tap) ≡ 7
 unfolding tagOf
 tag-split row half tap = refl
+
+pub tag-stop : (length : ℕ) → tagOf (StopPoints length) ≡ 9
+unfolding tagOf
+tag-stop length = refl
 
 -- only a full transfer (6) counts as one made
 

@@ -13,17 +13,20 @@ use Rattle.words.specs.Bit.{bit}
 use Rattle.words.specs.Word.{merged, covers, lets}
 use Rattle.words.specs.WordLaws.{merged-bit, covers-both}
 use Rattle.vram.specs.declared.Vram.{Vram}
+use Rattle.vram.specs.declared.Stop.the-variants.{Every128}
 use Rattle.vram.specs.declared.Cycle.{Cycle}
-use Rattle.vram.specs.declared.Cycle.the-variants.{WordWrite, BlockWrite, LoadColour, LoadMask, ResetRefresh}
-use Rattle.vram.specs.State.{withColour, withMask}
+use Rattle.vram.specs.declared.Cycle.the-variants.{WordWrite, BlockWrite, LoadColour, LoadMask, ResetRefresh, StopPoints}
+use Rattle.vram.specs.State.{stopLength, stopOf, withColour, withMask, withStop}
 use Rattle.vram.specs.Board.{Board, board, allowed, effect}
 use Rattle.vram.specs.Refusal.{refusal}
-use Rattle.refusals.specs.RefusalLaws.{Placed, write-zero, word-within, block-within}
+use Rattle.refusals.specs.RefusalLaws.{Placed, write-zero, word-within, block-within, stop-zero}
 use Rattle.vram.specs.MemoryLaws.{among, among-one}
 use Rattle.vram.specs.Step.{rowsOf, number, step}
 use Rattle.vram.specs.StepLaws.{number-zero, step-acts}
 use Rattle.vram.specs.Writes.{writes, written, written-at}
 use Rattle.vram.specs.Sets.{effect-writes}
+use Rattle.vram.specs.Serial.{lengthOf}
+use Rattle.vram.specs.StopLaws.{stop-length}
 
 -- ---- the memory: a cycle that is not refused leaves what `writes` says
 
@@ -132,11 +135,29 @@ pub mask-load : (b : Board) (word strobes : ℕ) → number (LoadMask word strob
 unfolding effect
 mask-load b word strobes z = step-acts effect (LoadMask word strobes) b z
 
--- ---- a reset refresh: the mask is no longer persistent, and stays
+-- ---- a reset refresh: the mask is no longer persistent, and stays; a partition has 128 places, also where no mask was persistent
 
-pub reset-refresh : (b : Board) → number ResetRefresh b ≡ 0 → step ResetRefresh b ≡ board (withMask (b .state) (b .state .mask) false) (b .memory) (b .serial)
+pub reset-refresh : (b : Board) → number ResetRefresh b ≡ 0
+    → step ResetRefresh b ≡ board (withStop (withMask (b .state) (b .state .mask) false) Every128) (b .memory) (b .serial)
 unfolding effect
 reset-refresh b z = step-acts effect ResetRefresh b z
+
+pub reset-length : (b : Board) → number ResetRefresh b ≡ 0 → lengthOf (step ResetRefresh b .state) ≡ 128
+unfolding lengthOf
+reset-length b z = ap (λ (x : Board). stopLength (x .state .stop)) (reset-refresh b z)
+
+-- ---- stop points: a partition has so many places; a tap that waits stays
+
+pub stop-points : (b : Board) (length : ℕ) → number (StopPoints length) b ≡ 0
+    → step (StopPoints length) b ≡ board (withStop (b .state) (stopOf length)) (b .memory) (b .serial)
+unfolding effect
+stop-points b length z = step-acts effect (StopPoints length) b z
+
+pub stop-points-length : (b : Board) (length : ℕ) → number (StopPoints length) b ≡ 0 → lengthOf (step (StopPoints length) b .state) ≡ length
+unfolding lengthOf refusal
+stop-points-length b length z =
+    ap (λ (x : Board). stopLength (x .state .stop)) (stop-points b length z)
+    ∙ stop-length length (stop-zero length (number-zero (StopPoints length) b z .1))
 
 -- ---- the mask in force and the strobes of a write that is masked, with both strobes, while the mask is not persistent
 

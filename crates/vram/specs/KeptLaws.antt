@@ -10,8 +10,8 @@ use borrow.Author.Tests.{ne-eqb, ltb-true, ltb-false}
 use Rattle.refusals.specs.RefusalLaws.{full-zero, split-zero, transfer-within}
 use Rattle.vram.specs.declared.Vram.{Vram}
 use Rattle.vram.specs.declared.Cycle.{Cycle}
-use Rattle.vram.specs.declared.Cycle.the-variants.{WordWrite, BlockWrite, LoadColour, LoadMask, ResetRefresh, FullTransfer, SplitTransfer}
-use Rattle.vram.specs.State.{withColour, withMask, other, ruled}
+use Rattle.vram.specs.declared.Cycle.the-variants.{WordWrite, BlockWrite, LoadColour, LoadMask, ResetRefresh, FullTransfer, SplitTransfer, StopPoints}
+use Rattle.vram.specs.State.{withSerial, other, ruled}
 use Rattle.vram.specs.Memory.{puts, copied}
 use Rattle.vram.specs.Board.{Board, board, effect}
 use Rattle.vram.specs.Refusal.{refusal}
@@ -20,10 +20,6 @@ use Rattle.vram.specs.StepLaws.{step-acts, step-holds}
 use Rattle.vram.specs.Kinds.{tagOf, loads}
 use Rattle.vram.specs.Writes.{Writes, nothing, writes, written}
 use Rattle.vram.specs.Sets.{Sets, registers, sets, sent, effect-is, effect-writes}
-
--- a state with these colour and mask registers and no other change
-abbrev pub recoloured : Vram → Vram → Vram
-recoloured s t = withMask (withColour s (t .colour)) (t .mask) (t .persistent)
 
 pub record Kept (c : Cycle) (s : Vram) : Type 0 where
   -- only a word write (1) and a block write (2) touch the memory, and they touch nothing else
@@ -35,7 +31,9 @@ pub record Kept (c : Cycle) (s : Vram) : Type 0 where
   pub mask : tagOf c ≢ 4 → sets c s .state .mask ≡ s .mask
   pub persistent : tagOf c ≢ 4 → tagOf c ≢ 5 → sets c s .state .persistent ≡ s .persistent
   -- only transfers (6 and 7) change the serial register, the pointer and the waiting tap
-  pub serial : tagOf c ≢ 6 → tagOf c ≢ 7 → sets c s ≡ registers (recoloured s (sets c s .state))
+  pub serial : tagOf c ≢ 6 → tagOf c ≢ 7 → sets c s ≡ registers (withSerial (sets c s .state) (s .loaded) (s .pointer) (s .waiting))
+  -- only a reset refresh (5) and stop points (9) change the length of a partition
+  pub stop : tagOf c ≢ 5 → tagOf c ≢ 9 → sets c s .state .stop ≡ s .stop
   -- only a full transfer (6) counts as one made
   pub loaded : sets c s .state .loaded ≡ loads c (s .loaded)
   -- a cycle that is not refused keeps the state's rule, and copies within the memory and the serial register
@@ -75,6 +73,7 @@ draws c s t e l =
       mask = λ h. ap (λ (x : Sets). x .state .mask) e;
       persistent = λ h k. ap (λ (x : Sets). x .state .persistent) e;
       serial = λ h k. rw e;
+      stop = λ h k. ap (λ (x : Sets). x .state .stop) e;
       loaded = ap (λ (x : Sets). x .state .loaded) e ∙ l;
       rule = λ rows z h. rw e h;
       copy = λ words z. rw e (omega arith, omega arith);
@@ -93,6 +92,7 @@ kept (LoadColour word strobes) s =
       mask = λ h. refl;
       persistent = λ h k. refl;
       serial = λ h k. refl;
+      stop = λ h k. refl;
       loaded = either (s .loaded);
       rule = λ rows z h. h;
       copy = λ words z. (omega arith, omega arith);
@@ -105,6 +105,7 @@ kept (LoadMask word strobes) s =
       mask = λ h. absurd (h refl);
       persistent = λ h k. absurd (h refl);
       serial = λ h k. refl;
+      stop = λ h k. refl;
       loaded = either (s .loaded);
       rule = λ rows z h. h;
       copy = λ words z. (omega arith, omega arith);
@@ -117,6 +118,7 @@ kept ResetRefresh s =
       mask = λ h. refl;
       persistent = λ h k. absurd (k refl);
       serial = λ h k. refl;
+      stop = λ h k. absurd (h refl);
       loaded = either (s .loaded);
       rule = λ rows z h. h;
       copy = λ words z. (omega arith, omega arith);
@@ -129,6 +131,7 @@ kept (FullTransfer row half tap) s =
       mask = λ h. refl;
       persistent = λ h k. refl;
       serial = λ h k. absurd (h refl);
+      stop = λ h k. refl;
       loaded = always (s .loaded);
       rule = λ rows z h. refl;
       copy = λ words z. let f = full-zero (words / 512) row half z in (omega (arith, transfer-within words row half 0 256 (f .0) (f .1) (omega arith)), omega arith);
@@ -141,12 +144,26 @@ kept (SplitTransfer row half tap) s =
       mask = λ h. refl;
       persistent = λ h k. refl;
       serial = λ h k. absurd (k refl);
+      stop = λ h k. refl;
       loaded = either (s .loaded);
       rule = λ rows z h. let f = split-zero rows (s .loaded) row half tap z in rw (f .made, other-half (s .pointer) tap (f .tap-within));
       copy = λ words z.
           let f = split-zero (words / 512) (s .loaded) row half tap z in
           let o = other-within (s .pointer) in
           (transfer-within words row half (128 * other (s .pointer)) 128 (f .row-fitted) (f .half-within) o, o);
+    }
+kept (StopPoints length) s =
+    record {
+      memory = λ h. refl;
+      others = λ h. absurd (omega arith);
+      colour = λ h. refl;
+      mask = λ h. refl;
+      persistent = λ h k. refl;
+      serial = λ h k. refl;
+      stop = λ h k. absurd (k refl);
+      loaded = either (s .loaded);
+      rule = λ rows z h. h;
+      copy = λ words z. (omega arith, omega arith);
     }
 
 -- ---- so a cycle, refused or not, keeps what its tag does not change
@@ -179,6 +196,10 @@ module _ (b : Board) where
   persistent-kept c h k =
       step-holds (λ x. x .state .persistent ≡ b .state .persistent) effect c b refl
       (λ z. ap (λ (x : Vram). x .persistent) (state-is c) ∙ kept c (b .state) .persistent h k)
+
+  pub stop-kept : (c : Cycle) → tagOf c ≢ 5 → tagOf c ≢ 9 → step c b .state .stop ≡ b .state .stop
+  stop-kept c h k =
+      step-holds (λ x. x .state .stop ≡ b .state .stop) effect c b refl (λ z. ap (λ (x : Vram). x .stop) (state-is c) ∙ kept c (b .state) .stop h k)
 
   -- ---- the serial register and the serial state
 

@@ -1,9 +1,9 @@
--- Kinds of cycles: document 01's tags, what a cycle writes to, and what a full transfer makes of `loaded`. Assumes nothing.
+-- Kinds of cycles: the tags of document 01 and M-107, what a cycle writes to, and what a full transfer makes of `loaded`. Assumes nothing.
 use Prim.Native.Nat.{ℕ}
 use mathlib.Core.Bool.{Bool, false, _||_}
 use lib.Dec.{eqb}
 use Rattle.vram.specs.declared.Cycle.{Cycle}
-use Rattle.vram.specs.declared.Cycle.the-variants.{WordWrite, BlockWrite, LoadColour, LoadMask, ResetRefresh, FullTransfer, SplitTransfer}
+use Rattle.vram.specs.declared.Cycle.the-variants.{WordWrite, BlockWrite, LoadColour, LoadMask, ResetRefresh, FullTransfer, SplitTransfer, StopPoints}
 
 unfoldable pub tagOf : Cycle → ℕ
 tagOf (WordWrite row column word masking mask strobes) = 1
@@ -13,6 +13,7 @@ tagOf (LoadMask word strobes) = 4
 tagOf ResetRefresh = 5
 tagOf (FullTransfer row half tap) = 6
 tagOf (SplitTransfer row half tap) = 7
+tagOf (StopPoints length) = 9
 
 -- what it writes to: nothing of the memory, a word, or the block that holds a word; by row and column
 pub data Target : Type 0 where
@@ -28,6 +29,7 @@ targetOf (LoadMask word strobes) = Nothing
 targetOf ResetRefresh = Nothing
 targetOf (FullTransfer row half tap) = Nothing
 targetOf (SplitTransfer row half tap) = Nothing
+targetOf (StopPoints length) = Nothing
 
 abbrev inRow : ℕ → Target → Bool
 inRow r Nothing = false

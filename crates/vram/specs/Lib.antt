@@ -38,15 +38,21 @@ pub mod KeptLaws
 pub mod TransferLaws
 -- a cycle changes nothing at which it does not aim
 pub mod AimLaws
+-- the lengths of a partition, and the stop points that they ask for
+pub mod StopLaws
+-- what the arithmetic needs of a partition's length
+pub mod Partition
 -- the pointer's motion
 pub mod SerialLaws
 -- lengths, rows and the state's rule are kept
 pub mod RuleLaws
+-- at length 128 the motion is document 01's
+pub mod HalfLaws
 -- of the calls that move the serial port
 pub mod CallLaws
 -- the definitions case by case, for other crates
 pub mod CaseLaws
 -- high bytes depend on high bytes
 pub mod HighLaws
--- the sheet's worked block write
+-- the sheet's worked block write, and its table of stop points
 pub mod Sheet

@@ -26,7 +26,7 @@ use Rattle.vram.specs.Sets.{sets, effect-is, effect-writes}
 use Rattle.vram.specs.KeptLaws.{kept}
 use Rattle.vram.specs.AimLaws.{aimed}
 use Rattle.vram.specs.Serial.{at, after, clockedOn, clockIn, clocksIn, lengthOf, clocks}
-use Rattle.vram.specs.SerialLaws.{Partition, partition}
+use Rattle.vram.specs.Partition.{Partition, partition, within, next}
 
 -- ---- lengths
 
@@ -111,9 +111,9 @@ module _ (n : ℕ) (P : Partition n) where
               → waitingOk (clockedOn n (Tap tap) s .waiting) (clockedOn n (Tap tap) s .loaded) (clockedOn n (Tap tap) s .pointer) ≡ true
           last true q = rw q
           last false q =
-              let l = P .within (s .pointer) in
+              let l = within P (s .pointer) in
               let k : s .pointer % n ≡ n - 1 → ⊥ = eqb-false _ _ q in
-              let g = P .next (s .pointer) p (omega arith) in
+              let g = next P (s .pointer) p (omega arith) in
               rw (q, mod-eq-of-lt (g .0), g .2) h
 
 -- ---- and by a run of clocks, where pointer and tap are places of the register, as a `Vram` has them

@@ -1,4 +1,4 @@
--- The serial port: document 01, "A serial clock". The register is read in partitions of n places. Assumes nothing.
+-- The serial port: document 01, "A serial clock", and change request M-107. The register is read in partitions of n places. Assumes nothing.
 use Prim.Native.Nat.{ℕ, zero, suc, _+_, _-_, _%_}
 use mathlib.Core.Bool.{cond}
 use mathlib.Core.List.{List, [], _∷_}
@@ -7,7 +7,7 @@ use lib.ListN.{getD}
 use Rattle.vram.specs.declared.Vram.{Vram}
 use Rattle.vram.specs.declared.Waiting.{Waiting}
 use Rattle.vram.specs.declared.Waiting.the-variants.{None, Tap}
-use Rattle.vram.specs.State.{withSerial}
+use Rattle.vram.specs.State.{stopLength, withSerial}
 
 -- the state at another place, with this tap waiting
 abbrev pub at : Vram → ℕ → Waiting → Vram
@@ -38,10 +38,10 @@ unfoldable pub clockedWordsIn : ℕ → ℕ → Vram → List ℕ → List ℕ
 clockedWordsIn n zero s r = []
 clockedWordsIn n (suc k) s r = getD r (s .pointer) 0 ∷ clockedWordsIn n k (clockIn n s) r
 
--- ---- by the length of the state's own partitions: a half of the register
+-- ---- by the length of the state's own partitions
 
 unfoldable pub lengthOf : Vram → ℕ
-lengthOf s = 128
+lengthOf s = stopLength (s .stop)
 
 abbrev pub through : Vram → ℕ
 through s = throughIn (lengthOf s) (s .pointer)

@@ -2,7 +2,7 @@
 use mathlib.Core.Path.{_≡_, refl, sym, ap, _∙_}
 use mathlib.Core.Bool.{Bool, true, false, cond}
 use mathlib.Core.List.{List, [], _∷_, _++_}
-use Prim.Native.Nat.{ℕ, zero, suc, _+_, _-_, _/_, _%_, _≤_, _<_}
+use Prim.Native.Nat.{ℕ, zero, suc, _+_, _-_, _%_, _≤_, _<_}
 use native.Mathlib.Omega.{arith}
 use native.Mathlib.Nat.{mod-eq-of-lt, add-zero, zero-add}
 use lib.Dec.{eqb}
@@ -13,6 +13,7 @@ use Rattle.vram.specs.declared.Vram.{Vram}
 use Rattle.vram.specs.declared.Waiting.{Waiting}
 use Rattle.vram.specs.declared.Waiting.the-variants.{None, Tap}
 use Rattle.vram.specs.State.{withSerial}
+use Rattle.vram.specs.Partition.{Partition, partition, within, next}
 use Rattle.vram.specs.Serial.{at, after, throughIn, clockedOn, clockIn, clocksIn, clockedWordsIn, lengthOf, through, clock, clocks, clockedWords}
 
 -- ---- a run of clocks is a run and then a run
@@ -44,28 +45,17 @@ pub clockIn-is : (n : ℕ) (s : Vram) → clockIn n s ≡ clocksIn n 1 s
 unfolding clocksIn
 clockIn-is n s = refl
 
--- ---- what the laws ask of a partition's length: its places lie in one half, in order
-
-pub record Partition (n : ℕ) : Type 0 where
-  pub next : (p : ℕ) → p < 256 → p % n + 1 < n → (p + 1 < 256) × ((p + 1) % n ≡ p % n + 1) × ((p + 1) / 128 ≡ p / 128)
-  pub within : (p : ℕ) → p % n < n
-
--- so it is of every state's
-pub partition : (s : Vram) → Partition (lengthOf s)
-unfolding lengthOf
-partition s = record { next = λ p h k. (omega arith, omega arith, omega arith); within = λ p. omega arith }
-
 module _ (n : ℕ) (P : Partition n) where
   -- a partition ends within the register
   ends-within : (j p : ℕ) → p < 256 → p % n + suc j ≡ n → p + suc j ≤ 256
   ends-within zero p h e = omega arith
   ends-within (suc j) p h e =
-      let g = P .next p h (omega arith) in
+      let g = next P p h (omega arith) in
       omega (arith, ends-within j (p + 1) (g .0) (omega (arith, g .1)))
 
   pub throughIn-within : (p : ℕ) → p < 256 → (0 < throughIn n p) × (p + throughIn n p ≤ 256)
   throughIn-within p h =
-      let l = P .within p in
+      let l = within P p in
       let e : suc (throughIn n p - 1) ≡ throughIn n p = omega arith in
       (omega arith, omega (arith, ends-within (throughIn n p - 1) p h (omega arith)))
 
@@ -76,7 +66,7 @@ module _ (n : ℕ) (P : Partition n) where
   clockIn-within s p h = go (s .waiting)
     where
       e : (s .pointer + 1) % 256 ≡ s .pointer + 1
-      e = mod-eq-of-lt (P .next (s .pointer) p h .0)
+      e = mod-eq-of-lt (next P (s .pointer) p h .0)
 
       go : (w : Waiting) → clockedOn n w s ≡ at s (s .pointer + 1) w
       go None = rw e
@@ -86,7 +76,7 @@ module _ (n : ℕ) (P : Partition n) where
   unfolding clocksIn
   clocksIn-within zero s p h = rw add-zero
   clocksIn-within (suc k) s p h =
-      let g = P .next (s .pointer) p (omega arith) in
+      let g = next P (s .pointer) p (omega arith) in
       let e : s .pointer + suc k ≡ s .pointer + 1 + k = omega arith in
       rw (clockIn-within s p (omega arith), e) (clocksIn-within k (at s (s .pointer + 1) (s .waiting)) (g .0) (rw (g .1) (omega arith)))
 
@@ -96,7 +86,7 @@ module _ (n : ℕ) (P : Partition n) where
   clockedWordsIn-within zero s r p h l = refl
   clockedWordsIn-within (suc zero) s r p h l = rw (drop-cons r (s .pointer) 0 (omega arith))
   clockedWordsIn-within (suc (suc k)) s r p h l =
-      let g = P .next (s .pointer) p (omega arith) in
+      let g = next P (s .pointer) p (omega arith) in
       let e : s .pointer + 1 ≡ suc (s .pointer) = omega arith in
       rw (drop-cons r (s .pointer) 0 (omega arith), clockIn-within s p (omega arith))
       (ap (λ (t : List ℕ). getD r (s .pointer) 0 ∷ t)
@@ -138,7 +128,7 @@ module _ (n : ℕ) (P : Partition n) (tap : ℕ) (t : tap < 256) where
       let e : 1 + k ≡ suc k = omega arith in
       rw (e, ends s w (omega arith)) (clocksIn-none n k (at s tap None) t refl)
   passes (suc j) k s p w h =
-      let g = P .next (s .pointer) p (omega arith) in
+      let g = next P (s .pointer) p (omega arith) in
       let e : suc (suc j) + k ≡ suc (suc j + k) = omega arith in
       ap (λ (x : ℕ). clocksIn n x s) e
       ∙ ap (clocksIn n (suc j + k)) (clockIn-within n P s p (omega arith))
@@ -147,7 +137,7 @@ module _ (n : ℕ) (P : Partition n) (tap : ℕ) (t : tap < 256) where
   pub clocksIn-through : (k : ℕ) (s : Vram) → s .pointer < 256 → s .waiting ≡ Tap tap → throughIn n (s .pointer) ≤ k
       → clocksIn n k s ≡ at s (after tap (k - throughIn n (s .pointer))) None
   clocksIn-through k s p w h =
-      let l = P .within (s .pointer) in
+      let l = within P (s .pointer) in
       let e : suc (throughIn n (s .pointer) - 1) + (k - throughIn n (s .pointer)) ≡ k = omega arith in
       ap (λ (x : ℕ). clocksIn n x s) (sym e) ∙ passes (throughIn n (s .pointer) - 1) (k - throughIn n (s .pointer)) s p w (omega arith)
 
@@ -175,7 +165,7 @@ module _ (n : ℕ) where
 pub clock-is : (s : Vram) → clock s ≡ clocks 1 s
 clock-is s = clockIn-is (lengthOf s) s
 
--- a run of clocks keeps colour, mask, persistence and `loaded`
+-- a run of clocks keeps colour, mask, persistence, `loaded` and the stop points
 pub clocks-keep : (k : ℕ) (s : Vram) → clocks k s ≡ withSerial s (s .loaded) (clocks k s .pointer) (clocks k s .waiting)
 clocks-keep k s = clocksIn-keeps (lengthOf s) k s
 
@@ -207,5 +197,5 @@ module _ (s : Vram) (p : s .pointer < 256) where
   -- as many words as lie before it are that many places in order
   pub clockedWords-within : (k : ℕ) (r : List ℕ) → k ≤ through s → s .pointer + k ≤ length r → clockedWords k s r ≡ take k (drop (s .pointer) r)
   clockedWords-within k r h l =
-      let w = partition s .within (s .pointer) in
+      let w = within (partition s) (s .pointer) in
       clockedWordsIn-within (lengthOf s) (partition s) k s r p (omega arith) l

@@ -8,9 +8,10 @@ use native.Mathlib.Nat.{add-zero}
 use Rattle.words.specs.Word.{merged, covers}
 use Rattle.vram.specs.declared.Vram.{Vram}
 use Rattle.vram.specs.declared.Waiting.the-variants.{None, Tap}
+use Rattle.vram.specs.declared.Stop.the-variants.{Every128}
 use Rattle.vram.specs.declared.Cycle.{Cycle}
-use Rattle.vram.specs.declared.Cycle.the-variants.{WordWrite, BlockWrite, LoadColour, LoadMask, ResetRefresh, FullTransfer, SplitTransfer}
-use Rattle.vram.specs.State.{withColour, withMask, withSerial, other}
+use Rattle.vram.specs.declared.Cycle.the-variants.{WordWrite, BlockWrite, LoadColour, LoadMask, ResetRefresh, FullTransfer, SplitTransfer, StopPoints}
+use Rattle.vram.specs.State.{stopOf, withColour, withMask, withSerial, withStop, other}
 use Rattle.vram.specs.Memory.{puts, copied}
 use Rattle.vram.specs.Board.{Board, board, effect}
 use Rattle.vram.specs.Writes.{writes, written}
@@ -31,7 +32,7 @@ sets (WordWrite row column word masking mask strobes) s = registers s
 sets (BlockWrite row column columns masking mask strobes) s = registers s
 sets (LoadColour word strobes) s = registers (withColour s (merged (s .colour) word (covers strobes)))
 sets (LoadMask word strobes) s = registers (withMask s (merged (s .mask) word (covers strobes)) true)
-sets ResetRefresh s = registers (withMask s (s .mask) false)
+sets ResetRefresh s = registers (withStop (withMask s (s .mask) false) Every128)
 sets (FullTransfer row half tap) s = record { state = withSerial s true tap None; from = 512 * row + 256 * half; to = 0; count = 256 }
 sets (SplitTransfer row half tap) s =
     let h = other (s .pointer) in
@@ -41,6 +42,7 @@ sets (SplitTransfer row half tap) s =
       to = 128 * h;
       count = 128;
     }
+sets (StopPoints length) s = registers (withStop s (stopOf length))
 
 -- the serial register afterwards
 abbrev pub sent : Sets → List ℕ → List ℕ → List ℕ
@@ -57,6 +59,7 @@ effect-is (LoadMask word strobes) b = refl
 effect-is ResetRefresh b = refl
 effect-is (FullTransfer row half tap) b = refl
 effect-is (SplitTransfer row half tap) b = refl
+effect-is (StopPoints length) b = refl
 
 pub effect-writes : (c : Cycle) (b : Board) → effect c b .memory ≡ written (writes c (b .state)) (b .memory)
 effect-writes c b = ap (λ (x : Board). x .memory) (effect-is c b)

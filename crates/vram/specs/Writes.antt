@@ -13,7 +13,7 @@ use Rattle.words.specs.Word.{merged, lets}
 use Rattle.words.specs.WordLaws.{merged-bit}
 use Rattle.vram.specs.declared.Vram.{Vram}
 use Rattle.vram.specs.declared.Cycle.{Cycle}
-use Rattle.vram.specs.declared.Cycle.the-variants.{WordWrite, BlockWrite, LoadColour, LoadMask, ResetRefresh, FullTransfer, SplitTransfer}
+use Rattle.vram.specs.declared.Cycle.the-variants.{WordWrite, BlockWrite, LoadColour, LoadMask, ResetRefresh, FullTransfer, SplitTransfer, StopPoints}
 use Rattle.vram.specs.Memory.{puts}
 use Rattle.vram.specs.MemoryLaws.{puts-length, among, puts-at, puts-part}
 use Rattle.vram.specs.Board.{allowed}
@@ -45,6 +45,7 @@ writes (LoadMask word strobes) s = nothing
 writes ResetRefresh s = nothing
 writes (FullTransfer row half tap) s = nothing
 writes (SplitTransfer row half tap) s = nothing
+writes (StopPoints length) s = nothing
 
 abbrev pub base : Writes → ℕ
 base w = 512 * w .row + w .column

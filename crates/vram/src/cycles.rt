@@ -1,4 +1,4 @@
-// The seven cycles. `Vram::cycle` tells the kinds apart; each judges what it is given, then its own numbers, then acts. What is given is
+// The eight cycles. `Vram::cycle` tells the kinds apart; each judges what it is given, then its own numbers, then acts. What is given is
 // not judged before the kinds are told apart: so a list's choice by the tag and the choice of the kind become one in the machine's code.
 ghost use mathlib.Core.Path.{_≡_};
 ghost use mathlib.Core.Bool.{true, false, _&&_};
@@ -7,15 +7,17 @@ ghost use lib.ListN.{length};
 ghost use Rattle.numbers.specs.Refuse.{firstOf, leaves};
 ghost use Rattle.words.specs.Bit.{ofBits};
 ghost use Rattle.words.specs.Word.{merged, covers, lets};
-ghost use Rattle.vram.specs.State.{withColour, withMask, withSerial, other};
+ghost use Rattle.vram.specs.State.{stopOf, withColour, withMask, withSerial, withStop, other};
 ghost use Rattle.vram.specs.Memory.{put, puts, copied};
 ghost use Rattle.vram.specs.Board.{board, inForce, allowed};
 ghost use Rattle.vram.specs.Refusal.{given};
-ghost use Rattle.refusals.specs.Refusal.{writeRefusal, loadRefusal, fullRefusal, splitRefusal};
+ghost use Rattle.refusals.specs.Refusal.{writeRefusal, loadRefusal, fullRefusal, splitRefusal, stopRefusal};
 ghost use Rattle.vram.specs.Calls.{answers, outcome, cycleCall, Transferred};
 ghost use Rattle.vram.specs.declared.Waiting.the-variants.{None, Tap};
+ghost use Rattle.vram.specs.declared.Stop.the-variants.{Every128};
 use crate::Answered;
 use crate::Cycle;
+use crate::Stop;
 use crate::Vram;
 use crate::Waiting;
 use crate::memory::copy;
@@ -25,6 +27,7 @@ use crate::memory::write_word;
 use refusals::full_refusal;
 use refusals::load_refusal;
 use refusals::split_refusal;
+use refusals::stop_refusal;
 use refusals::write_refusal;
 
 impl Vram {
@@ -163,7 +166,7 @@ impl Vram {
     }
 
     fn reset_refresh(self, words: usize, serial_words: usize) -> Answered
-        ensures { λ r. ⌜ r ≡ answers (firstOf (given self words «serial_words») 0) self (withMask self (self .mask) false) ⌝ }
+        ensures { λ r. ⌜ r ≡ answers (firstOf (given self words «serial_words») 0) self (withStop (withMask self (self .mask) false) Every128) ⌝ }
     {
         let n = self.given(words, serial_words);
         if n != numbers::DONE {
@@ -172,7 +175,8 @@ impl Vram {
                 number: n,
             };
         }
-        let state = self.with_mask(self.mask, false);
+        let plain = self.with_mask(self.mask, false);
+        let state = plain.with_stop(Stop::Every128);
         Answered {
             state,
             number: numbers::DONE,
@@ -241,6 +245,30 @@ impl Vram {
         let from = place(row as u32, 256 * (half as u32)) + to;
         copy(memory, from, serial, to, 128);
         let state = self.with_serial(self.loaded, self.pointer, Waiting::Tap(first + tap));
+        Answered {
+            state,
+            number: numbers::DONE,
+        }
+    }
+
+    fn stop_points(self, words: usize, serial_words: usize, length: u8) -> Answered
+        ensures { λ r. ⌜ r ≡ answers (firstOf (given self words «serial_words») (stopRefusal length)) self (withStop self (stopOf length)) ⌝ }
+    {
+        let n = self.given(words, serial_words);
+        if n != numbers::DONE {
+            return Answered {
+                state: self,
+                number: n,
+            };
+        }
+        let n = stop_refusal(length);
+        if n != numbers::DONE {
+            return Answered {
+                state: self,
+                number: n,
+            };
+        }
+        let state = self.with_stop(Stop::of(length));
         Answered {
             state,
             number: numbers::DONE,
@@ -317,6 +345,7 @@ impl Vram {
             Cycle::SplitTransfer { row, half, tap } => {
                 self.split_transfer(memory, serial, row, half, tap)
             }
+            Cycle::StopPoints { length } => self.stop_points(memory.len(), serial.len(), length),
         }
     }
 }

@@ -1,10 +1,11 @@
-// The TMS55161 video RAM. Source document 004, pages on byte operation, write-per-bit, block write, transfers and the serial port;
-// where our copy has gaps, document 01 decides.
-// A call stands for a whole cycle. Not modelled: pin edges, voltages, nanoseconds, decay and refresh, page mode, stop points, the
-// exchange of column bits, masked transfers, serial input. A split tap of 127, which the sheet calls not valid, is accepted: the
-// table of document 01 allows 0 to 127.
+// The TMS55161 video RAM. Source document 004, pages on byte operation, write-per-bit, block write, transfers, the serial port and stop
+// points; where our copy has gaps, document 01 decides.
+// A call stands for a whole cycle. Not modelled: pin edges, voltages, nanoseconds, decay and refresh, page mode, the exchange of column
+// bits 7 and 8 in stop-point mode, masked transfers, serial input. A split tap of 127, which the sheet calls not valid, is accepted: the
+// table of document 01 allows 0 to 127. Stop points (change request M-107) are set by the length of a partition, not by the
+// sheet's code for it.
 ghost use mathlib.Core.Path.{_≡_};
-ghost use Rattle.vram.specs.State.{fresh};
+ghost use Rattle.vram.specs.State.{stopLength, stopOf, fresh};
 ghost use Rattle.vram.specs.Calls.{wordReadCall};
 
 mod cycles;
@@ -18,10 +19,18 @@ use numbers::refuse;
 use refusals::fitted;
 use refusals::placed;
 
-// The tap that a split transfer leaves for the end of the half.
+// The tap that a split transfer leaves for the end of the pointer's partition.
 pub enum Waiting {
     None,
     Tap(u8),
+}
+
+// The length of a partition of the serial register: a stop point every so many places. There is no other length to exclude.
+pub enum Stop {
+    Every16,
+    Every32,
+    Every64,
+    Every128,
 }
 
 // The registers, by value. Every field is public: a state that the rules exclude can be built, and is refused.
@@ -32,6 +41,7 @@ pub struct Vram {
     pub loaded: bool,
     pub pointer: u8,
     pub waiting: Waiting,
+    pub stop: Stop,
 }
 
 // A cycle on the memory, with the widths of a field's body.
@@ -71,6 +81,9 @@ pub enum Cycle {
         half: u8,
         tap: u8,
     },
+    StopPoints {
+        length: u8,
+    },
 }
 
 // The state after a call, and the number given back.
@@ -100,6 +113,32 @@ pub struct Word {
     pub word: u16,
 }
 
+impl Stop {
+    // The stop points of a partition's length: whoever has another than the four refuses it before.
+    pub fn of(length: u8) -> Stop
+        ensures { λ r. ⌜ r ≡ stopOf length ⌝ }
+    {
+        match length {
+            16 => Stop::Every16,
+            32 => Stop::Every32,
+            64 => Stop::Every64,
+            _ => Stop::Every128,
+        }
+    }
+
+    // The length of a partition.
+    pub fn length(self) -> u8
+        ensures { λ r. ⌜ r ≡ stopLength self ⌝ }
+    {
+        match self {
+            Stop::Every16 => 16,
+            Stop::Every32 => 32,
+            Stop::Every64 => 64,
+            Stop::Every128 => 128,
+        }
+    }
+}
+
 impl Vram {
     pub fn fresh() -> Vram
         ensures { λ r. ⌜ r ≡ fresh ⌝ }
@@ -111,6 +150,7 @@ impl Vram {
             loaded: false,
             pointer: 0,
             waiting: Waiting::None,
+            stop: Stop::Every128,
         }
     }
 }

@@ -1,7 +1,7 @@
 // The serial port: the clock, and how a run of clocks moves. The tap is used up and the pointer advanced here and nowhere else.
 ghost use mathlib.Core.Path.{_≡_};
 ghost use Prim.Native.Nat.{_<_};
-ghost use Rattle.vram.specs.Serial.{after, lengthOf, through, clocks};
+ghost use Rattle.vram.specs.Serial.{after, through, clocks};
 ghost use Rattle.vram.specs.Calls.{clockCall, clocksCall};
 use crate::Clocked;
 use crate::Moved;
@@ -17,19 +17,13 @@ fn advance(place: u8, count: u32) -> u8
 }
 
 impl Vram {
-    // The length of a partition: a half of the register.
-    fn length(self) -> u8
-        ensures { λ r. ⌜ (r ≡ lengthOf self) × (0 < r) ⌝ }
-    {
-        128
-    }
-
     // How many clocks lead through the end of the pointer's partition.
     fn through(self) -> u32
         ensures { λ r. ⌜ r ≡ through self ⌝ }
     {
         let pointer = self.pointer;
-        let length = self.length();
+        let stop = self.stop;
+        let length = stop.length();
         (length - pointer % length) as u32
     }
 

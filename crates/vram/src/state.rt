@@ -1,6 +1,7 @@
 // A state with one thing changed; every cycle changes a state by these. The state's rule.
 ghost use mathlib.Core.Path.{_≡_};
-ghost use Rattle.vram.specs.State.{withColour, withMask, withSerial, ruled};
+ghost use Rattle.vram.specs.State.{withColour, withMask, withSerial, withStop, ruled};
+use crate::Stop;
 use crate::Vram;
 use crate::Waiting;
 
@@ -9,6 +10,7 @@ impl Vram {
         ensures { λ r. ⌜ r ≡ withColour self colour ⌝ }
     {
         let waiting = self.waiting;
+        let stop = self.stop;
         Vram {
             colour,
             mask: self.mask,
@@ -16,6 +18,7 @@ impl Vram {
             loaded: self.loaded,
             pointer: self.pointer,
             waiting,
+            stop,
         }
     }
 
@@ -23,6 +26,7 @@ impl Vram {
         ensures { λ r. ⌜ r ≡ withMask self mask persistent ⌝ }
     {
         let waiting = self.waiting;
+        let stop = self.stop;
         Vram {
             colour: self.colour,
             mask,
@@ -30,12 +34,14 @@ impl Vram {
             loaded: self.loaded,
             pointer: self.pointer,
             waiting,
+            stop,
         }
     }
 
     pub(crate) fn with_serial(self, loaded: bool, pointer: u8, waiting: Waiting) -> Vram
         ensures { λ r. ⌜ r ≡ withSerial self loaded pointer waiting ⌝ }
     {
+        let stop = self.stop;
         Vram {
             colour: self.colour,
             mask: self.mask,
@@ -43,10 +49,27 @@ impl Vram {
             loaded,
             pointer,
             waiting,
+            stop,
         }
     }
 
-    // Whether the rules allow the state: a waiting tap needs a full transfer made, and lies in the half that does not hold the pointer.
+    pub(crate) fn with_stop(self, stop: Stop) -> Vram
+        ensures { λ r. ⌜ r ≡ withStop self stop ⌝ }
+    {
+        let waiting = self.waiting;
+        Vram {
+            colour: self.colour,
+            mask: self.mask,
+            persistent: self.persistent,
+            loaded: self.loaded,
+            pointer: self.pointer,
+            waiting,
+            stop,
+        }
+    }
+
+    // Whether the rules allow the state: a waiting tap needs a full transfer made, and lies in the half that does not hold the pointer. That
+    // a partition has one of the four lengths is the type's.
     pub fn ruled(self) -> bool
         ensures { λ r. ⌜ r ≡ ruled self ⌝ }
     {

@@ -1,12 +1,15 @@
 -- `host::state::lawful` meets its contract. Assumes nothing.
-use mathlib.Core.Path.{refl}
+use borrow.Author.Needs.{needs}
 use Rattle.host.specs.State.{lawful}
 use Rattle.host.proofs.state.lawful.Statement.{statement}
 use Rattle.host.proofs.state.lawful.Tie as tie
 
+partition-ok-requires : tie.Need-partition-ok-requires
+partition-ok-requires c κs = search needs
+
 returns : tie.Need-returns
 unfolding lawful
-returns c = refl
+returns c = rw (c .partition-ok .ensures)
 
 pub lawful-spec : {M : Type 1} → statement M
-lawful-spec = tie.close (tie.spec returns)
+lawful-spec = tie.close (tie.spec partition-ok-requires returns)

@@ -7,9 +7,12 @@ use Rattle.host.proofs.state.take.Tie as tie
 waiting-of-requires : tie.Need-waiting-of-requires
 waiting-of-requires c κs = search needs
 
+of-requires : tie.Need-of-requires
+of-requires c κs = search needs
+
 returns : tie.Need-returns
 unfolding taken
-returns c = rw (c .before .before .waiting-of .ensures)
+returns c = rw (c .before .before .before .waiting-of .ensures, c .before .before .of .ensures)
 
 pub take-spec : {M : Type 1} → statement M
-take-spec = tie.close (tie.spec waiting-of-requires returns)
+take-spec = tie.close (tie.spec waiting-of-requires of-requires returns)

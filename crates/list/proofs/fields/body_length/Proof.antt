@@ -20,7 +20,17 @@ returns-3 c = rw (lt-leb _ 2 (c .before .before .if1 .left), lt-leb _ 4 (c .befo
 
 returns-4 : tie.Need-returns-4
 unfolding lenOf
-returns-4 c = rw (lt-leb _ 2 (c .before .before .if1 .left), lt-leb _ 4 (c .before .if2 .left), ne-eqb _ 5 (c .if3 .left)) (refl, omega arith)
+returns-4 c =
+    let b = c .before in
+    rw (lt-leb _ 2 (b .before .before .if1 .left), lt-leb _ 4 (b .before .if2 .left), ne-eqb _ 5 (b .if3 .left), le-leb _ 7 (c .if4 .taken))
+    (refl, omega arith)
+
+returns-5 : tie.Need-returns-5
+unfolding lenOf
+returns-5 c =
+    let b = c .before in
+    rw (lt-leb _ 2 (b .before .before .if1 .left), lt-leb _ 4 (b .before .if2 .left), ne-eqb _ 5 (b .if3 .left), lt-leb _ 7 (c .if4 .left))
+    (refl, omega arith)
 
 pub body-length-spec : {M : Type 1} → statement M
-body-length-spec = tie.close (tie.spec returns returns-2 returns-3 returns-4)
+body-length-spec = tie.close (tie.spec returns returns-2 returns-3 returns-4 returns-5)

@@ -2,7 +2,7 @@
 use mathlib.Core.Path.{_∙_}
 use native.Mathlib.Omega.{arith}
 use borrow.Author.Tests.{ne-eqb}
-use Rattle.list.specs.TagLaws.{len-write, len-load, len-transfer}
+use Rattle.list.specs.TagLaws.{len-write, len-load, len-transfer, len-stop}
 use Rattle.list.specs.Tags.{cycleOf}
 use Rattle.list.proofs.runs.cycle_of.Statement.{statement}
 use Rattle.list.proofs.runs.cycle_of.Tie as tie
@@ -20,10 +20,13 @@ load-mask-requires : tie.Need-load-mask-requires
 load-mask-requires c κs = c .before .before .pre ∙ len-load _ (omega (arith, c .match .keys4)) (omega (arith, c .match .keys4))
 
 full-transfer-requires : tie.Need-full-transfer-requires
-full-transfer-requires c κs = c .before .before .pre ∙ len-transfer _ (omega (arith, c .match .keys5))
+full-transfer-requires c κs = c .before .before .pre ∙ len-transfer _ (omega (arith, c .match .keys5)) (omega (arith, c .match .keys5))
 
 split-transfer-requires : tie.Need-split-transfer-requires
-split-transfer-requires c κs = c .before .before .pre ∙ len-transfer _ (omega (arith, c .match .keys6))
+split-transfer-requires c κs = c .before .before .pre ∙ len-transfer _ (omega (arith, c .match .keys6)) (omega (arith, c .match .keys6))
+
+stop-points-requires : tie.Need-stop-points-requires
+stop-points-requires c κs = c .before .before .pre ∙ len-stop _ (c .match .keys7)
 
 returns : tie.Need-returns
 unfolding cycleOf
@@ -51,9 +54,14 @@ returns-6 c = rw (c .before .match .keys6) (c .split-transfer .ensures)
 
 returns-7 : tie.Need-returns-7
 unfolding cycleOf
-returns-7 c =
+returns-7 c = rw (c .before .match .keys7) (c .stop-points .ensures)
+
+returns-8 : tie.Need-returns-8
+unfolding cycleOf
+returns-8 c =
     let r = c .match .rest in
-    rw (ne-eqb _ 1 (r .0 .0 .0 .0 .0 .1), ne-eqb _ 2 (r .0 .0 .0 .0 .1), ne-eqb _ 3 (r .0 .0 .0 .1), ne-eqb _ 4 (r .0 .0 .1), ne-eqb _ 6 (r .0 .1), ne-eqb _ 7 (r .1))
+    let q = r .0 .0 .0 in
+    rw (ne-eqb _ 1 (q .0 .0 .0 .1), ne-eqb _ 2 (q .0 .0 .1), ne-eqb _ 3 (q .0 .1), ne-eqb _ 4 (q .1), ne-eqb _ 6 (r .0 .0 .1), ne-eqb _ 7 (r .0 .1), ne-eqb _ 9 (r .1))
 
 pub cycle-of-spec : {M : Type 1} → statement M
 cycle-of-spec =
@@ -65,10 +73,12 @@ cycle-of-spec =
     load-mask-requires
     full-transfer-requires
     split-transfer-requires
+    stop-points-requires
     returns
     returns-2
     returns-3
     returns-4
     returns-5
     returns-6
-    returns-7)
+    returns-7
+    returns-8)

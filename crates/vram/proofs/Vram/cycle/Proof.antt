@@ -51,6 +51,12 @@ enum-known-cycle-6 c = search needs
 split-transfer-requires : tie.Need-split-transfer-requires
 split-transfer-requires c κs = search needs
 
+enum-known-cycle-7 : tie.Need-enum-known-cycle-7
+enum-known-cycle-7 c = search needs
+
+stop-points-requires : tie.Need-stop-points-requires
+stop-points-requires c κs = search needs
+
 same-length : tie.Need-same-length
 same-length c = search needs
 
@@ -121,6 +127,13 @@ returns-7 c =
     rw (k .cycle6 .given .1, t .split-transfer .ensures .answer)
     (did _ _ _ _ _ refl refl (untouched (firstOf (given _ _ _) (splitRefusal _ _ _ _ _)) _) (t .split-transfer .ensures .serial))
 
+returns-8 : tie.Need-returns-8
+unfolding effect refusal
+returns-8 c =
+    let k = c .before .before in
+    rw (k .cycle7 .given .1, c .stop-points .ensures)
+    (did-alone _ _ _ _ _ refl refl refl refl)
+
 pub cycle-spec : {M : Type 1} → statement M
 cycle-spec =
     tie.close
@@ -139,6 +152,8 @@ cycle-spec =
     full-transfer-requires
     enum-known-cycle-6
     split-transfer-requires
+    enum-known-cycle-7
+    stop-points-requires
     same-length
     returns
     same-length-2
@@ -151,4 +166,5 @@ cycle-spec =
     returns-6
     same-length-5
     same-length-6
-    returns-7)
+    returns-7
+    returns-8)
