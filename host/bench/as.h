@@ -22,8 +22,8 @@
 /* FAULT plants one error in plain.c and in tuned.c, which the test program must find: 1 a block write keeps the low column bits, 2 a plain
  * write is accepted with a mask, 3 a waiting tap is not used up, 4 the pixel mask is ignored, 5 the palette's phase is kept across an
  * address write, 6 a read of blue takes no entry, 7 a fill goes by blocks where words are no more cycles, 8 a high byte of 255 is a
- * mark, 9 a part of eight bits has no sixteenth, 10 a reset refresh keeps the partition's
- * length, 11 a waiting tap is taken at the end of a half only. */
+ * mark, 9 a part of eight bits has no sixteenth, 10 a reset refresh keeps the partition's length, 11 a waiting tap is taken at the end of
+ * a half only, 12 a list that leaves its mask behind is accepted, 13 it is refused at its first mask load. */
 #ifndef FAULT
 #define FAULT 0
 #endif

@@ -70,6 +70,7 @@ linkshoar_ran linkshoar_list_run(linkshoar_vram state, uint16_t *memory, size_t 
     if (r.number || !length)
         return r;
     int loaded = state.loaded;
+    size_t open = length; /* the last mask load, until a reset refresh comes */
     for (size_t at = 0; at < length; at += 3u + body_bytes[list[at]]) {
         r.number = judge(list + at, length - at, (unsigned)(words / 512), loaded);
         if (r.number) {
@@ -77,6 +78,15 @@ linkshoar_ran linkshoar_list_run(linkshoar_vram state, uint16_t *memory, size_t 
             return r;
         }
         loaded |= list[at] == 6;
+        if (list[at] == 4 && (FAULT != 13 || open == length))
+            open = at;
+        else if (list[at] == 5)
+            open = length;
+    }
+    if (open < length && FAULT != 12) {
+        r.number = 20;
+        r.place = open;
+        return r;
     }
     linkshoar_vram s = state;
     for (const uint8_t *f = list, *end = list + length; f < end; f += 3u + body_bytes[f[0]]) {

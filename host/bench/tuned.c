@@ -71,8 +71,9 @@ static inline uint32_t judge_write(const uint8_t *f, uint32_t rows)
     return (uint8_t)(b >> 24) != 1 && (uint32_t)b >> (FAULT == 2 ? 24 : 8) ? 8 : 0;
 }
 
-/* What refuses the field at f, of which LONGEST bytes may be read, and how many it has. */
-static inline uint32_t judge(const uint8_t *f, uint32_t rows, int *loaded, size_t *bytes)
+/* What refuses the field at f, of which LONGEST bytes may be read, and how many it has; *open is the last mask load, until a reset refresh
+ * comes. */
+static inline uint32_t judge(const uint8_t *f, uint32_t rows, int *loaded, const uint8_t **open, size_t *bytes)
 {
     uint32_t header = four(f) >> 8, b;
     if (header == HEADER(1, 10) || header == HEADER(2, 10)) {
@@ -80,11 +81,14 @@ static inline uint32_t judge(const uint8_t *f, uint32_t rows, int *loaded, size_
         return judge_write(f, rows);
     }
     switch (header) {
-    case HEADER(3, 3): case HEADER(4, 3):
+    case HEADER(4, 3):
+        *open = FAULT == 13 && *open ? *open : f;
+        /* fall through */
+    case HEADER(3, 3):
         *bytes = 6;
         return (uint8_t)(f[5] - 1) > 2 ? 7 : 0;
     case HEADER(5, 0):
-        *bytes = 3;
+        *bytes = 3, *open = NULL;
         return 0;
     case HEADER(6, 4):
         *bytes = 7, *loaded = 1;
@@ -106,21 +110,22 @@ static inline uint32_t judge(const uint8_t *f, uint32_t rows, int *loaded, size_
  * behind it. */
 static uint32_t check(const uint8_t *list, size_t length, uint32_t rows, int loaded, uint64_t *place)
 {
-    const uint8_t *f = list, *end = list + length, *late = length < LONGEST ? list : end - LONGEST + 1;
+    const uint8_t *f = list, *end = list + length, *late = length < LONGEST ? list : end - LONGEST + 1, *open = NULL;
     size_t bytes;
     for (; f < late; f += bytes) {
-        uint32_t number = judge(f, rows, &loaded, &bytes);
+        uint32_t number = judge(f, rows, &loaded, &open, &bytes);
         if (number) {
             *place = (uint64_t)(f - list);
             return number;
         }
     }
     uint8_t rest[2 * LONGEST] = {0};
+    const uint8_t *early = open;
     size_t left = (size_t)(end - f);
     if (left)
         memcpy(rest, f, left);
     for (size_t k = 0; k < left; k += bytes) {
-        uint32_t number = judge(rest + k, rows, &loaded, &bytes);
+        uint32_t number = judge(rest + k, rows, &loaded, &open, &bytes);
         if (number != 4 && bytes > left - k)
             number = 4;
         if (number) {
@@ -128,7 +133,10 @@ static uint32_t check(const uint8_t *list, size_t length, uint32_t rows, int loa
             return number;
         }
     }
-    return 0;
+    if (!open || FAULT == 12)
+        return 0;
+    *place = (uint64_t)(open == early ? open - list : f - list + (open - rest));
+    return 20;
 }
 
 static const uint16_t covered[4] = {0, 0x00FF, 0xFF00, 0xFFFF}; /* by the strobes */

@@ -29,7 +29,13 @@
 extern "C" {
 #endif
 
-/* Since 4.6.0 linkshoar_vram has a last member, stop: the length of a partition of the serial register. Compiled again, a program that takes
+/* Since 4.7.0 a list must not leave its mask behind: one with a mask load and no reset refresh after it is refused whole with number 20, new,
+ * at the offset of its last mask load. A program whose lists load the mask must change: each such list ends with linkshoar_put_reset_refresh,
+ * or has it somewhere after its last mask load, and what is to be drawn through the mask stands before it in the same list. One list can no
+ * longer load a mask for the next to draw through, or to reset. The reset refresh brings partitions of 128 back, whether this list or an
+ * earlier one has set stop points: a program that uses them sets them again after it. A list without a mask load is judged as before, also
+ * where the mask came in persistent.
+ * Since 4.6.0 linkshoar_vram has a last member, stop: the length of a partition of the serial register. Compiled again, a program that takes
  * its states from linkshoar_vram_fresh and from answers need not change. One that makes a linkshoar_vram itself, or keeps its members one by
  * one, must: stop is 128 where no list has set it, and a state with a stop of 0, as {0} has, is refused with 1. The struct has its old size:
  * a state that an older program kept as bytes has any byte there, and 128 is to be put in its place. In a list tag 9 is no longer unknown,
@@ -43,9 +49,10 @@ extern "C" {
  * program that fills both bytes with FFFF to show entry 255 fills them with 00FF.
  * Since 4.3.0 the two palette reads take the table, and after a read of blue the colour registers take the next entry and the address goes
  * up by one: a program that then reads the same entry again, writes colours or reads the address sets the address first. */
-#define LINKSHOAR_VERSION "4.6.0"
+#define LINKSHOAR_VERSION "4.7.0"
 
-/* The numbers given back. Where several apply the lowest is given; in a list the first bad field wins, then its lowest number. */
+/* The numbers given back. Where several apply the lowest is given; in a list the first bad field wins, then its lowest number, and 20 is
+ * given only where no field is refused. */
 enum {
     LINKSHOAR_DONE = 0,
     LINKSHOAR_STATE_EXCLUDED = 1,
@@ -65,7 +72,8 @@ enum {
     LINKSHOAR_BUFFER_SHORT = 15,
     LINKSHOAR_SETTING_OTHER = 16,
     LINKSHOAR_VIDEO_OFF_OR_OVERRIDE = 17,
-    LINKSHOAR_PARTITION_OTHER = 19 /* there is no 18 */
+    LINKSHOAR_PARTITION_OTHER = 19, /* there is no 18 */
+    LINKSHOAR_MASK_LEFT_BEHIND = 20
 };
 
 /* Sizes. */
@@ -137,7 +145,7 @@ typedef struct {
 typedef struct {
     linkshoar_vram state;
     uint32_t number;
-    uint64_t place; /* of 4 to 10, and 19: the offset of the field that is refused; else 0 */
+    uint64_t place; /* of 4 to 10, and 19: the offset of the field that is refused; of 20: of the last mask load; else 0 */
 } linkshoar_ran;
 
 typedef struct {
@@ -205,7 +213,9 @@ typedef struct {
  * row: below the rows fitted. column: 0 to 511. strobes: the bytes of the word that are written, one of LINKSHOAR_STROBES_. masking: one of
  * LINKSHOAR_MASKING_. mask: the bits that a masked write may change, unless the mask register is persistent and so in force instead; 0 for
  * a plain write. half: of the row, 0 columns 0 to 255, 1 columns 256 to 511. tap: a place, 0 to 255; of a split transfer 0 to 127.
- * partition length: 16, 32, 64 or 128. */
+ * partition length: 16, 32, 64 or 128.
+ *
+ * After a mask load a reset refresh comes, anywhere further on in the same list: else the list is refused whole. */
 enum {
     LINKSHOAR_TAG_WORD_WRITE = 1,
     LINKSHOAR_TAG_BLOCK_WRITE = 2,
@@ -293,7 +303,7 @@ static inline size_t linkshoar_put_load_colour(uint8_t *at, uint16_t data, uint8
     return linkshoar_put_load(at, LINKSHOAR_TAG_LOAD_COLOUR, data, strobes);
 }
 
-/* 6 bytes: the strobed bytes of the mask register, which is persistent from then on. */
+/* 6 bytes: the strobed bytes of the mask register, which is persistent from then on, until the reset refresh that this list owes. */
 static inline size_t linkshoar_put_load_mask(uint8_t *at, uint16_t data, uint8_t strobes)
 {
     return linkshoar_put_load(at, LINKSHOAR_TAG_LOAD_MASK, data, strobes);
@@ -341,7 +351,9 @@ linkshoar_palette linkshoar_palette_fresh(void);
 linkshoar_filled linkshoar_fill(uint32_t rows, uint32_t first_row, uint32_t end_row, uint32_t first_column, uint32_t end_column,
                                 uint16_t mask, uint16_t colour, uint32_t persistent, uint8_t *list, size_t length);
 
-/* Checks a list whole, then runs it in order; length: the list's bytes. Refused with 1 to 10, 19. */
+/* Checks a list whole, then runs it in order; length: the list's bytes. A list with a mask load or a reset refresh, where it is not refused,
+ * leaves the mask not persistent; any other leaves persistence as it was. So from a fresh state on, if persistent is always the state's, no
+ * fill is refused with 13. Refused with 1 to 10, 19, 20. */
 linkshoar_ran linkshoar_list_run(linkshoar_vram state, uint16_t *memory, size_t words, uint16_t *serial, size_t serial_words,
                                  const uint8_t *list, size_t length);
 
@@ -447,6 +459,7 @@ static inline const char *linkshoar_strerror(uint32_t number)
     case LINKSHOAR_SETTING_OTHER: return "setting out of range, or page mode together with interleaved update";
     case LINKSHOAR_VIDEO_OFF_OR_OVERRIDE: return "no word is fetched with video off or in override";
     case LINKSHOAR_PARTITION_OTHER: return "partition length not 16, 32, 64 or 128";
+    case LINKSHOAR_MASK_LEFT_BEHIND: return "a mask load with no reset refresh after it in the list";
     default: return "unknown number";
     }
 }

@@ -6,7 +6,7 @@
 #include <stdio.h>
 #include <string.h>
 
-void both_list_run(linkshoar_vram state, size_t words, size_t serial_words, size_t length)
+linkshoar_vram both_list_run(linkshoar_vram state, size_t words, size_t serial_words, size_t length)
 {
     linkshoar_ran a = linkshoar_list_run(state, words_of(memory_a, words), words, words_of(serial_a, serial_words), serial_words,
                                          bytes_of(bytes_a, length), length);
@@ -18,6 +18,7 @@ void both_list_run(linkshoar_vram state, size_t words, size_t serial_words, size
     same_words("the memory of linkshoar_list_run", memory_a, memory_b, words);
     same_words("the serial register of linkshoar_list_run", serial_a, serial_b, serial_words);
     same_bytes("the list of linkshoar_list_run", bytes_a, bytes_b, length);
+    return a.state;
 }
 
 void both_word_read(size_t words, uint32_t row, uint32_t column, uint32_t strobes)

@@ -4,7 +4,7 @@
 
 #include "linkshoar.h"
 
-enum { NUMBERS = 20 }; /* 0 to 19, but for 18, are given */
+enum { NUMBERS = 21 }; /* 0 to 20, but for 18, are given */
 
 extern unsigned long long calls, seen[NUMBERS];
 

@@ -105,6 +105,40 @@ static void every_part(void)
     both_panel_run_six(loaded(), 256, linkshoar_palette_fresh(), 768, 256, 0, 768);
 }
 
+static size_t put_kind(uint8_t *at, unsigned kind)
+{
+    switch (kind) {
+    case 0: return linkshoar_put_load_mask(at, 0x0FF0, LINKSHOAR_STROBES_LOW);
+    case 1: return linkshoar_put_reset_refresh(at);
+    case 2: return linkshoar_put_load_colour(at, 0xA5C3, LINKSHOAR_STROBES_BOTH);
+    case 3: return linkshoar_put_word_write(at, 0, 7, 0x5A3C, LINKSHOAR_MASKING_MASKED, 0x00FF, LINKSHOAR_STROBES_BOTH);
+    default: return linkshoar_put_load_colour(at, 0xA5C3, 0);
+    }
+}
+
+/* Every list of up to five fields, each a mask load, a reset refresh, a colour load, a masked write, or a colour load that is refused, from a
+ * state that is persistent and from one that is not; and a fill planned from the state that comes back. */
+static void every_mask_list(void)
+{
+    enum { KINDS = 5, FIELDS = 5 };
+    unsigned lists = 1;
+    for (unsigned fields = 0; fields <= FIELDS; fields++, lists *= KINDS)
+        for (unsigned list = 0; list < 2 * lists; list++) {
+            linkshoar_vram s = linkshoar_vram_fresh();
+            size_t n = 0;
+            for (unsigned k = 0, kinds = list / 2; k < fields; k++, kinds /= KINDS)
+                n += put_kind(bytes_a + n, kinds % KINDS);
+            memcpy(bytes_b, bytes_a, n);
+            memory_a[7] = memory_b[7] = 0;
+            s.persistent = (uint8_t)(list % 2);
+            s.mask = 0x3333;
+            linkshoar_vram after = both_list_run(s, 512, 256, n);
+            if (after.persistent > s.persistent)
+                differ("linkshoar_list_run, which left its mask behind");
+            both_fill(1, 0, 1, 7, 8, 0xFFFF, 0x1234, after.persistent, LINKSHOAR_FIELD_BYTES);
+        }
+}
+
 /* Every length, 0 to 255, in a field and in a state, with the pointer at 15 and a tap waiting. */
 static void every_length(void)
 {
@@ -164,6 +198,7 @@ void try_edges(void)
     panel_edges();
     every_word();
     every_part();
+    every_mask_list();
     every_length();
     every_place();
     palette_edges();

@@ -240,6 +240,25 @@ static void run_field(linkshoar_vram *s, uint16_t *memory, uint16_t *serial, mod
     }
 }
 
+/* The offset of the last mask load that has no reset refresh after it, or the length where there is none: each is asked by itself. */
+static size_t left_open(const uint8_t *list, size_t length)
+{
+    size_t open = length;
+    for (size_t at = 0, next; at < length; at = next) {
+        int reset = 0;
+        next = at + 3 + pair(list + at + 1);
+        if (list[at] != 4 && (FAULT != 43 || list[at] != 5)) /* a reset refresh taken for a mask load: a list that only resets refused */
+            continue;
+        for (size_t later = FAULT == 42 ? 0 : next; later < length; later += 3 + pair(list + later + 1)) /* one before the load counted */
+            reset = reset || list[later] == 5;
+        if (FAULT == 41 && reset) /* a mask load, a reset refresh and another mask load accepted */
+            return length;
+        if (!reset && (FAULT != 40 || open == length)) /* the offset of the first */
+            open = at;
+    }
+    return FAULT == 39 ? length : open; /* never refused: the rule before M-111 */
+}
+
 linkshoar_ran model_list_run(linkshoar_vram state, uint16_t *memory, size_t words, uint16_t *serial, size_t serial_words,
                              const uint8_t *list, size_t length)
 {
@@ -259,10 +278,25 @@ linkshoar_ran model_list_run(linkshoar_vram state, uint16_t *memory, size_t word
         r.number = field_number(list + at, length - at, words / 512, loaded);
         if (r.number) {
             r.place = at;
+            if (FAULT == 44 && left_open(list, at) < at) { /* 20 before a later field's own number */
+                r.number = 20;
+                r.place = left_open(list, at);
+            }
             return r;
         }
         if (list[at] == 6)
             loaded = 1;
+    }
+    size_t open = left_open(list, length);
+    if (FAULT == 45 && state.persistent && length && open == length) /* a mask that came in persistent counted */
+        open = 0;
+    if (open < length) {
+        r.number = 20;
+        r.place = open;
+#if FAULT == 46 /* refused, but the mask load made */
+        run_field(&r.state, memory, serial, model_field_read(list + open));
+#endif
+        return r;
     }
     for (size_t at = 0; at < length; at += 3 + pair(list + at + 1))
         run_field(&r.state, memory, serial, model_field_read(list + at));

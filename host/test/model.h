@@ -1,7 +1,7 @@
 /* A second implementation of document 01, and of the change requests that have landed, in plain C, bit by bit, written from the rules and not
  * from the proved code. The test program compares the two. FAULT plants one error: 1 to 6 those that document 01 lists or that earlier
  * versions had, 7 to 17 the Am8150's, 18 to 20 those of a palette read, 21 to 24 those of reverse video, 25 to 29 those of parts of eight
- * bits, 30 to 38 those of stop points. Each must be found. */
+ * bits, 30 to 38 those of stop points, 39 to 46 those of masks left behind. Each must be found. */
 #ifndef MODEL_H
 #define MODEL_H
 

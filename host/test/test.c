@@ -83,6 +83,8 @@ static size_t some_list(uint32_t rows)
         return 0;
     while (bytes < most)
         bytes += put_field(bytes_a + bytes, rows);
+    if (chance(2)) /* else half of the lists would leave a mask behind */
+        bytes += linkshoar_put_reset_refresh(bytes_a + bytes);
     if (chance(2)) { /* one byte damaged, or the end cut off */
         if (chance(3))
             cut = below(14) % (bytes + 1);

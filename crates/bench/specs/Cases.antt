@@ -1,14 +1,15 @@
--- The bench cases marked * in document 01, "Bench cases", in its order, the case of change request M-102 in document 02, and three of our
--- own for M-107: one list that holds them and no other. Assumes nothing.
+-- The bench cases marked * in document 01, "Bench cases", in its order, the case of change request M-102 in document 02, and our own for
+-- M-107 and M-111: one list that holds them and no other. Assumes nothing.
 use Prim.Native.Nat.{ℕ, zero, suc, _%_}
 use mathlib.Core.Path.{_≡_}
-use mathlib.Core.List.{List, [], _∷_, _++_, map}
+use mathlib.Core.Bool.{Bool, true, false}
+use mathlib.Core.List.{List, [], _∷_, _++_, map, flatten}
 use lib.ListN.{length, take, replicate}
 use Rattle.vram.specs.declared.Vram.{Vram}
 use Rattle.vram.specs.declared.Cycle.{Cycle}
 use Rattle.vram.specs.declared.Cycle.the-variants.{WordWrite, BlockWrite, LoadColour, ResetRefresh, FullTransfer, SplitTransfer, StopPoints}
 use Rattle.vram.specs.declared.Word.{Word}
-use Rattle.vram.specs.State.{fresh, withColour}
+use Rattle.vram.specs.State.{fresh, withColour, withMask}
 use Rattle.vram.specs.Board.{Board, board}
 use Rattle.vram.specs.Step.{number, step, run}
 use Rattle.vram.specs.Calls.{cycleCall, clockCall}
@@ -16,7 +17,7 @@ use Rattle.palette.specs.declared.Palette.{Palette}
 use Rattle.palette.specs.State.{fresh as freshPalette}
 use Rattle.palette.specs.Calls.{Access, write, read}
 use Rattle.palette.specs.Session.{session, doneWith}
-use Rattle.list.specs.Meaning.{cyclesOf}
+use Rattle.list.specs.Meaning.{bad, cyclesOf, verdictOf}
 use Rattle.planner.specs.Fill.{fill}
 use Rattle.planner.specs.Calls.{fillCall}
 use Rattle.planner.specs.Paint.{listIn}
@@ -32,6 +33,8 @@ pub data Case : Type 0 where
   palette : (accesses : List Access) (bytes : List ℕ) (state : Palette) (table : List ℕ) → Case
   -- columns of a fill of one row, M FFFF, not persistent, the number of cycles and the cycles
   fill-row : (firstColumn endColumn cycles : ℕ) (list : List Cycle) → Case
+  -- a list field by field, on a row of zeros and a fresh state but for its persistence, and the number and place that it is answered with
+  list-verdict : (persistent : Bool) (fields : List (List ℕ)) (number place : ℕ) → Case
   -- a word write to every memory of 512 rows: a row that is accepted, one that is refused, and its number
   row : (accepted refused number : ℕ) → Case
 
@@ -77,10 +80,22 @@ Holds (palette accesses bytes state table) =
 Holds (fill-row firstColumn endColumn cycles list) =
     let o = fillCall (fill 1 0 1 firstColumn endColumn 0xFFFF 0x0011 0) (replicate 32 0) in
     (o .answer .number ≡ 0) × (o .answer .cycles ≡ cycles) × (cyclesOf (listIn o) ≡ list)
+Holds (list-verdict persistent fields number place) =
+    verdictOf (flatten fields) (board (withMask fresh 0 persistent) (replicate 512 0) (replicate 256 0)) ≡ bad number place
 Holds (row accepted refused number) =
     (m r : List ℕ) → length m ≡ 262144 → length r ≡ 256
     → (cycleCall (WordWrite refused 0 0 0 0 3) (board fresh m r) ≡ record { given = number; after = board fresh m r })
     × (cycleCall (WordWrite accepted 0 0 0 0 3) (board fresh m r) .given ≡ 0)
+
+-- the fields of M-111's cases
+abbrev pub maskLoad : List ℕ
+maskLoad = 4 ∷ 0 ∷ 3 ∷ 0x0F ∷ 0xF0 ∷ 3 ∷ []
+
+abbrev pub colourLoad : ℕ → List ℕ
+colourLoad strobes = 3 ∷ 0 ∷ 3 ∷ 0xA5 ∷ 0xC3 ∷ strobes ∷ []
+
+abbrev pub reset : List ℕ
+reset = 5 ∷ 0 ∷ 0 ∷ []
 
 -- ---- the cases
 
@@ -121,6 +136,18 @@ starred =
     ∷ serial (StopPoints 64 ∷ FullTransfer 0 0 62 ∷ []) 258 (places 62 194 ++ places 0 64)
     -- M-107: reset refresh brings 128 back: the tap set while the length was 16 is taken at 127 and not at 15, 31 and so on.
     ∷ serial (StopPoints 16 ∷ FullTransfer 0 0 14 ∷ SplitTransfer 0 0 5 ∷ ResetRefresh ∷ []) 115 (places 14 114 ++ 133 ∷ [])
+    -- M-111: a mask load and a colour load: 20, at the mask load.
+    ∷ list-verdict false (maskLoad ∷ colourLoad 3 ∷ []) 20 0
+    -- M-111: with a reset refresh at the end it is accepted, and so is a list that only resets.
+    ∷ list-verdict false (maskLoad ∷ colourLoad 3 ∷ reset ∷ []) 0 0
+    ∷ list-verdict false (reset ∷ []) 0 0
+    -- M-111: of two mask loads the last; a reset refresh closes only those before it.
+    ∷ list-verdict false (maskLoad ∷ maskLoad ∷ []) 20 6
+    ∷ list-verdict false (reset ∷ maskLoad ∷ []) 20 3
+    ∷ list-verdict false (maskLoad ∷ reset ∷ maskLoad ∷ []) 20 9
+    -- M-111: a later field's own number comes first; a mask that came in persistent is not the list's.
+    ∷ list-verdict false (maskLoad ∷ colourLoad 0 ∷ []) 7 6
+    ∷ list-verdict true (colourLoad 3 ∷ []) 0 0
     ∷ []
 
 abbrev pub Every : List Case → Type 0

@@ -1,5 +1,5 @@
 // Runs the bench cases of document 01 that are not proved, and more, and prints what came. The starred ones, M-102's and ours for
-// M-107 are proved in specs/.
+// M-107 and M-111 are proved in specs/.
 ghost use mathlib.Core.Path.{_≡_};
 ghost use lib.ListN.{length};
 use planner::Filled;
@@ -108,8 +108,16 @@ fn long_lists() {
     say_report(b"4095 bytes: ", &list[..4095]);
 }
 
+// A mask load and a write through it, with no reset refresh and with one.
+fn mask_left_behind() {
+    let list = *b"\x04\0\x03\x0F\xF0\x03\x01\0\x0A\0\x03\0\x02\x12\x34\x01\0\xFF\x03\x05\0\0";
+    say_report(b"a mask left behind: ", &list[..19]);
+    say_report(b"and reset: ", &list);
+}
+
 fn main() {
     worked_fill();
     last_row();
     long_lists();
+    mask_left_behind();
 }

@@ -8,3 +8,5 @@ pub mod Calls
 pub mod StateLaws
 -- a refusal hands the state back; a call on a state handed to C is the call below
 pub mod CallLaws
+-- a fill after a list
+pub mod AfterList

@@ -8,17 +8,23 @@ use native.Mathlib.Omega.{arith}
 use lib.Dec.{eqb}
 use lib.ListN.{length, take, drop, length-drop}
 use lib.Seq.{take-all}
+use borrow.Author.Tests.{ne-eqb}
 use Rattle.vram.specs.declared.Cycle.{Cycle}
 use Rattle.vram.specs.Board.{Board}
 use Rattle.vram.specs.Refusal.{refusal}
 use Rattle.vram.specs.Step.{step, run}
 use Rattle.vram.specs.Calls.{Outcome, cycleCall}
 use Rattle.vram.specs.CaseLaws.{cycle-after, run-none, run-next}
+use Rattle.list.specs.declared.Bad.{Bad}
+use Rattle.list.specs.declared.Open.{Open}
 use Rattle.list.specs.Tags.{lenOf, cycleOf}
 use Rattle.list.specs.Fields.{tag, body, whole, fieldOf, sizeOf, fields}
 use Rattle.list.specs.FieldLaws.{whole-length, fields-nil, fields-whole, fields-not, field-not, readable-head, readable-tail}
-use Rattle.list.specs.Meaning.{numberOf, bad, verdict, readable, cyclesOf}
-use Rattle.list.specs.VerdictLaws.{size-whole, number-whole, made-whole, cycles-whole, accepted-whole, cycles-nil, verdict-nil, verdict-good, verdict-bad}
+use Rattle.list.specs.Open.{opens}
+use Rattle.list.specs.OpenLaws.{open-whole}
+use Rattle.list.specs.Meaning.{numberOf, bad, readable, leftBehind, firstBad, judged, cyclesOf}
+use Rattle.list.specs.VerdictLaws.{size-whole, number-whole, made-whole, cycles-whole, accepted-whole, cycles-nil}
+use Rattle.list.specs.JudgeLaws.{bad-first, bad-later, judged-nil, judged-good, judged-bad}
 
 -- ---- parts of a slice
 
@@ -47,40 +53,58 @@ pub number-of-body : (rows : ℕ) (made : Bool) (s : List ℕ) (n : ℕ) → n �
     → refusal rows made (cycleOf (tag s) (take (3 + n - 3) (drop 3 s))) ≡ numberOf rows made (fieldOf s)
 number-of-body rows made s n e w = ap (λ (b : List ℕ). refusal rows made (cycleOf (tag s) b)) (body-part s n e) ∙ sym (number-whole s w rows made)
 
--- ---- the checking loop; k is the number of the field
+-- ---- a write and a colour load leave what the checking loop carries
 
-pub end-check : (rows : ℕ) (made : Bool) (at : ℕ) (s : List ℕ) → length s ≡ 0 → bad 0 0 ≡ verdict rows made at (fields s)
-end-check rows made at s h = sym (ap (verdict rows made at) (fields-nil s (omega arith)) ∙ verdict-nil rows made at)
+pub fill-loads : (t : ℕ) (made : Bool) → t ≤ 3 → made ≡ (made || eqb t 6)
+fill-loads t made h = rw (ne-eqb t 6 (λ e. omega arith)) (go made)
+  where
+    go : (p : Bool) → p ≡ (p || false)
+    go true = refl
+    go false = refl
 
-module _ (rows : ℕ) (made : Bool) (s : List ℕ) (p : length s ≢ 0) (k : ℕ) (e : k ≡ numberOf rows made (fieldOf s)) where
-  pub turn-bad : k ≢ 0 → (at : ℕ) → bad k at ≡ verdict rows made at (fields s)
-  turn-bad h at = go (whole s) refl
-    where
-      refused : (fs : _) → fields s ≡ fieldOf s ∷ fs → bad k at ≡ verdict rows made at (fields s)
-      refused fs q = ap (λ (x : ℕ). bad x at) e ∙ sym (ap (verdict rows made at) q ∙ verdict-bad rows made at (fieldOf s) fs (λ z. h (e ∙ z)))
+pub fill-opens : (t at : ℕ) (left : Open) → t ≤ 3 → left ≡ opens t at left
+unfolding opens
+fill-opens t at left h = rw (ne-eqb t 4 (λ e. omega arith), ne-eqb t 5 (λ e. omega arith))
 
-      go : (t : Bool) → whole s ≡ t → bad k at ≡ verdict rows made at (fields s)
-      go true q = refused _ (fields-whole s q)
-      go false q = refused [] (rw (field-not s q) (fields-not s (omega arith) q))
+-- ---- the checking loop; k is the number of the field, v what the loop yields and r what is answered
 
-  module _ (z : k ≡ 0) (n : ℕ) (m : n ≡ lenOf (tag s)) where
-    good : whole s ≡ true
-    good = accepted-whole s rows made (sym e ∙ z)
+module _ (rows : ℕ) (made : Bool) (left : Open) (s : List ℕ) where
+  module _ (v w r : Bad) (f : r ≡ firstBad v w) (at : ℕ) where
+    pub end-check : length s ≡ 0 → v ≡ bad 0 0 → w ≡ leftBehind left → r ≡ judged rows made left at (fields s)
+    end-check h a b =
+        f ∙ bad-later v w (ap (λ (x : Bad). x .number) a) ∙ b ∙ sym (ap (judged rows made left at) (fields-nil s (omega arith)) ∙ judged-nil rows made left at)
 
-    pub turn-fits : 3 + n ≤ length s
-    turn-fits = omega (arith, whole-length s good)
+    pub turn-bad : length s ≢ 0 → (k : ℕ) → k ≡ numberOf rows made (fieldOf s) → k ≢ 0 → v ≡ bad k at → r ≡ judged rows made left at (fields s)
+    turn-bad p k e h a = f ∙ bad-first v w (λ z. h (sym (ap (λ (x : Bad). x .number) a) ∙ z)) ∙ a ∙ go (whole s) refl
+      where
+        refused : (fs : _) → fields s ≡ fieldOf s ∷ fs → bad k at ≡ judged rows made left at (fields s)
+        refused fs q = ap (λ (x : ℕ). bad x at) e ∙ sym (ap (judged rows made left at) q ∙ judged-bad rows made left at (fieldOf s) fs (λ z. h (e ∙ z)))
 
-    pub turn-good : (total : ℕ) → length s ≤ total
-        → verdict rows (made || eqb (tag s) 6) (total - length (take (length s - (3 + n)) (drop (3 + n) s))) (fields (take (length s - (3 + n)) (drop (3 + n) s)))
-        ≡ verdict rows made (total - length s) (fields s)
-    turn-good total l =
-        let f = turn-fits in
-        let r = rest-length s n m in
-        let y = size-whole s good in
-        let a : total - length (take (length s - (3 + n)) (drop (3 + n) s)) ≡ total - length s + sizeOf (fieldOf s) = omega arith in
-        ap₂ (verdict rows (made || eqb (tag s) 6)) a (ap fields (rest-part s n m))
-        ∙ ap (λ (t : Bool). verdict rows t (total - length s + sizeOf (fieldOf s)) (fields (drop (3 + lenOf (tag s)) s))) (sym (made-whole s good made))
-        ∙ sym (ap (verdict rows made (total - length s)) (fields-whole s good) ∙ verdict-good rows made (total - length s) (fieldOf s) _ (sym e ∙ z))
+        go : (t : Bool) → whole s ≡ t → bad k at ≡ judged rows made left at (fields s)
+        go true q = refused _ (fields-whole s q)
+        go false q = refused [] (rw (field-not s q) (fields-not s (omega arith) q))
+
+  module _ (k : ℕ) (e : k ≡ numberOf rows made (fieldOf s)) where
+    module _ (z : k ≡ 0) (n : ℕ) (m : n ≡ lenOf (tag s)) where
+      good : whole s ≡ true
+      good = accepted-whole s rows made (sym e ∙ z)
+
+      pub turn-fits : 3 + n ≤ length s
+      turn-fits = omega (arith, whole-length s good)
+
+      pub turn-good : (total : ℕ) → length s ≤ total → (m′ : Bool) (o : Open) → m′ ≡ (made || eqb (tag s) 6) → o ≡ opens (tag s) (total - length s) left
+          → judged rows m′ o (total - length (take (length s - (3 + n)) (drop (3 + n) s))) (fields (take (length s - (3 + n)) (drop (3 + n) s)))
+          ≡ judged rows made left (total - length s) (fields s)
+      turn-good total l m′ o t u =
+          let f = turn-fits in
+          let r = rest-length s n m in
+          let y = size-whole s good in
+          let at = total - length s in
+          let a : total - length (take (length s - (3 + n)) (drop (3 + n) s)) ≡ at + sizeOf (fieldOf s) = omega arith in
+          ap₂ (judged rows m′ o) a (ap fields (rest-part s n m))
+          ∙ ap₂ (λ (y : Bool) (x : Open). judged rows y x (at + sizeOf (fieldOf s)) (fields (drop (3 + lenOf (tag s)) s))) (t ∙ sym (made-whole s good made))
+          (u ∙ sym (open-whole s good at left))
+          ∙ sym (ap (judged rows made left at) (fields-whole s good) ∙ judged-good rows made left at (fieldOf s) _ (sym e ∙ z))
 
 -- ---- the running loop
 

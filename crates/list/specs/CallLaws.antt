@@ -1,30 +1,22 @@
--- Laws of the call: what it gives back and what it leaves. Assumes nothing.
-use mathlib.Core.Path.{_≡_, refl, sym, ap, _∙_}
-use mathlib.Core.Bool.{Bool, true, false}
+-- Laws of the call: what it gives back, step by step, and what it leaves. Assumes nothing.
+use mathlib.Core.Path.{_≡_, refl, ap, _∙_}
+use mathlib.Core.Bool.{Bool, true}
 use mathlib.Core.List.{List, [], _∷_}
 use mathlib.Core.Logic.{_≢_}
 use Prim.Native.Nat.{ℕ, _+_}
 use native.Mathlib.Omega.{arith}
-use lib.Dec.{eqb}
-use borrow.Author.Tests.{eq-eqb, ne-eqb, eqb-true, eqb-false}
 use Rattle.numbers.specs.RefuseLaws.{leaves-made, leaves-before}
 use Rattle.vram.specs.Board.{Board, effect}
 use Rattle.vram.specs.Step.{givenOf, rowsOf, Engine, stepBy, runBy, run}
-use Rattle.list.specs.declared.Bad.{Bad}
+use Rattle.list.specs.declared.Open.the-variants.{None}
 use Rattle.list.specs.Fields.{Field, Reads, Unreadable, sizeOf, fields}
-use Rattle.list.specs.Meaning.{numberOf, madeBy, bad, verdict, readable, cyclesOf, verdictOf, runCallBy, runCall}
-use Rattle.list.specs.VerdictLaws.{verdict-nil, verdict-good, accepted-head, accepted-tail}
+use Rattle.list.specs.Open.{openOf}
+use Rattle.list.specs.Meaning.{numberOf, madeBy, bad, verdict, readable, cyclesOf, leftBehind, judged, verdictOf, runCallBy, runCall}
+use Rattle.list.specs.VerdictLaws.{accepted-head, accepted-tail}
+use Rattle.list.specs.JudgeLaws.{bad-first, bad-later, bad-zero, left-none, left-zero}
 
--- ---- accepted fields
+-- ---- accepted fields can be read
 
--- the verdict says 0 and 0
-pub accepted-zeros : (rows : ℕ) (made : Bool) (at : ℕ) (fs : List Field) → verdict rows made at fs .number ≡ 0 → verdict rows made at fs ≡ bad 0 0
-accepted-zeros rows made at [] h = verdict-nil rows made at
-accepted-zeros rows made at (f ∷ fs) h =
-    verdict-good rows made at f fs (accepted-head rows made at f fs h)
-    ∙ accepted-zeros rows (madeBy f made) (at + sizeOf f) fs (accepted-tail rows made at f fs h)
-
--- and each can be read
 pub accepted-readable : (rows : ℕ) (made : Bool) (at : ℕ) (fs : List Field) → verdict rows made at fs .number ≡ 0 → readable fs ≡ true
 unfolding readable numberOf
 accepted-readable rows made at [] h = refl
@@ -32,26 +24,53 @@ accepted-readable rows made at (Reads c n ∷ fs) h =
     accepted-readable rows (madeBy (Reads c n) made) (at + sizeOf (Reads c n)) fs (accepted-tail rows made at (Reads c n) fs h)
 accepted-readable rows made at (Unreadable ∷ fs) h = absurd (omega (arith, accepted-head rows made at Unreadable fs h))
 
--- ---- the call
+-- ---- the verdict, step by step
 
 module _ (list : List ℕ) (b : Board) where
   -- 1 to 3 come first, with place 0
   pub verdict-given : givenOf b ≢ 0 → verdictOf list b ≡ bad (givenOf b) 0
   unfolding verdictOf
-  verdict-given h = rw (ne-eqb (givenOf b) 0 h)
+  verdict-given h = bad-first (bad (givenOf b) 0) _ h
 
-  -- then the fields decide
-  pub verdict-fields : givenOf b ≡ 0 → verdictOf list b ≡ verdict (rowsOf b) (b .state .loaded) 0 (fields list)
-  unfolding verdictOf
-  verdict-fields h = rw (eq-eqb (givenOf b) 0 h)
+  module _ (g : givenOf b ≡ 0) where
+    pub verdict-judged : verdictOf list b ≡ judged (rowsOf b) (b .state .loaded) None 0 (fields list)
+    unfolding verdictOf
+    verdict-judged = bad-later (bad (givenOf b) 0) _ g
 
-  -- where a list is accepted the state and the lengths are as they should be
-  pub accepted-given : verdictOf list b .number ≡ 0 → givenOf b ≡ 0
-  accepted-given h = go (eqb (givenOf b) 0) refl
-    where
-      go : (t : Bool) → eqb (givenOf b) 0 ≡ t → givenOf b ≡ 0
-      go true q = eqb-true _ _ q
-      go false q = sym (ap (λ (v : Bad). v .number) (verdict-given (eqb-false _ _ q))) ∙ h
+    -- then the first field that is refused
+    pub verdict-fields : verdict (rowsOf b) (b .state .loaded) 0 (fields list) .number ≢ 0
+        → verdictOf list b ≡ verdict (rowsOf b) (b .state .loaded) 0 (fields list)
+    unfolding judged
+    verdict-fields h = verdict-judged ∙ bad-first (verdict (rowsOf b) (b .state .loaded) 0 (fields list)) _ h
+
+    -- and where none is, what is left behind
+    pub verdict-left : verdict (rowsOf b) (b .state .loaded) 0 (fields list) .number ≡ 0 → verdictOf list b ≡ leftBehind (openOf list)
+    unfolding judged
+    verdict-left h = verdict-judged ∙ bad-later (verdict (rowsOf b) (b .state .loaded) 0 (fields list)) _ h
+
+  -- an accepted list passes all three: the state and the lengths are as they should be
+  module _ (h : verdictOf list b .number ≡ 0) where
+    steps : (givenOf b ≡ 0) × (judged (rowsOf b) (b .state .loaded) None 0 (fields list) .number ≡ 0)
+    unfolding verdictOf
+    steps = bad-zero (bad (givenOf b) 0) (judged (rowsOf b) (b .state .loaded) None 0 (fields list)) h
+
+    later : (verdict (rowsOf b) (b .state .loaded) 0 (fields list) .number ≡ 0) × (leftBehind (openOf list) .number ≡ 0)
+    unfolding judged
+    later = bad-zero (verdict (rowsOf b) (b .state .loaded) 0 (fields list)) (leftBehind (openOf list)) (steps .1)
+
+    pub accepted-given : givenOf b ≡ 0
+    accepted-given = steps .0
+
+    -- no field is refused
+    pub accepted-fields : verdict (rowsOf b) (b .state .loaded) 0 (fields list) .number ≡ 0
+    accepted-fields = later .0
+
+    -- and no mask load is left open
+    pub accepted-closed : openOf list ≡ None
+    accepted-closed = left-zero (openOf list) (later .1)
+
+    pub accepted-zeros : verdictOf list b ≡ bad 0 0
+    accepted-zeros = verdict-left accepted-given accepted-fields ∙ ap leftBehind accepted-closed ∙ left-none
 
 -- ---- the call, by any engine
 

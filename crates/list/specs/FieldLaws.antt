@@ -48,7 +48,7 @@ field-not s h = rw h
 
 -- ---- more bytes after it change nothing of it
 
-tag-append : (s t : List ℕ) → 0 < length s → tag (s ++ t) ≡ tag s
+pub tag-append : (s t : List ℕ) → 0 < length s → tag (s ++ t) ≡ tag s
 tag-append s t h = List·getD-append s t 0 0 h
 
 word-append : (s t : List ℕ) (i : ℕ) → i + 1 < length s → word (s ++ t) i ≡ word s i

@@ -4,6 +4,8 @@
 pub mod Tags
 -- bytes as fields
 pub mod Fields
+-- the mask load that is still open
+pub mod Open
 -- the verdict, and the call
 pub mod Meaning
 -- cycles as bytes
@@ -20,21 +22,29 @@ pub mod TagLaws
 pub mod FieldLaws
 -- the verdict, field by field
 pub mod VerdictLaws
+-- the open mask load, field by field and joined
+pub mod OpenLaws
+-- fields in order, and then what they leave behind
+pub mod JudgeLaws
 -- of the call, by any engine
 pub mod CallLaws
 -- how many bytes and cycles a list has
 pub mod CountLaws
 -- an accepted list performs every field
 pub mod PerformLaws
--- an accepted list, then another
+-- one list, then another
 pub mod JoinLaws
+-- what a list leaves of persistence
+pub mod PersistLaws
 -- what is written is read back
 pub mod EncodeLaws
 -- the same as a planner needs it
 pub mod EncodedLaws
 -- when a field is settled
 pub mod WaitsLaws
+-- a refused list, then more bytes
+pub mod MoreLaws
 -- how a list is walked
 pub mod HeadLaws
--- numbers and places stay in range
+-- numbers and places stay in range; when 20 is given
 pub mod RangeLaws

@@ -1,5 +1,5 @@
--- What a list is answered with and what it leaves: document 01, "Lists and fills" and "Numbers given back". The cycles are known by
--- what `vram` says of them: `refusal`, `loads`, `run`. Assumes nothing.
+-- What a list is answered with and what it leaves: document 01, "Lists and fills" and "Numbers given back", and change request M-111. The
+-- cycles are known by what `vram` says of them: `refusal`, `loads`, `run`. Assumes nothing.
 use Prim.Native.Nat.{ℕ, _+_}
 use mathlib.Core.Bool.{Bool, true, false, cond}
 use mathlib.Core.List.{List, [], _∷_}
@@ -12,8 +12,11 @@ use Rattle.vram.specs.Refusal.{refusal}
 use Rattle.vram.specs.Kinds.{loads}
 use Rattle.vram.specs.Step.{givenOf, rowsOf, Engine, stepBy, runBy}
 use Rattle.list.specs.declared.Bad.{Bad}
+use Rattle.list.specs.declared.Open.{Open}
+use Rattle.list.specs.declared.Open.the-variants.{None, At}
 use Rattle.list.specs.declared.Ran.{Ran}
 use Rattle.list.specs.Fields.{Field, Reads, Unreadable, sizeOf, fields}
+use Rattle.list.specs.Open.{openAfter}
 
 -- ---- a field
 
@@ -52,6 +55,21 @@ readable [] = true
 readable (Reads c n ∷ fs) = readable fs
 readable (Unreadable ∷ fs) = false
 
+-- ---- what is left behind
+
+-- 20 for an open mask load, at its offset
+unfoldable pub leftBehind : Open → Bad
+leftBehind None = bad 0 0
+leftBehind (At place) = bad 20 place
+
+-- of two verdicts the first that refuses
+unfoldable pub firstBad : Bad → Bad → Bad
+firstBad v later = cond (eqb (v .number) 0) later v
+
+-- fields in order, and then what they leave behind. `made`, `left` and `at` are what those before them have left
+unfoldable pub judged : ℕ → Bool → Open → ℕ → List Field → Bad
+judged rows made left at fs = firstBad (verdict rows made at fs) (leftBehind (openAfter at fs left))
+
 -- ---- a list
 
 abbrev pub cyclesOf : List ℕ → List Cycle
@@ -61,9 +79,9 @@ cyclesOf list = cycles (fields list)
 abbrev pub countOf : List ℕ → ℕ
 countOf list = length (fields list)
 
--- 1 to 3 first, with place 0; then its fields
+-- three steps: 1 to 3, with place 0; its fields in order; what they leave behind
 unfoldable pub verdictOf : List ℕ → Board → Bad
-verdictOf list b = cond (eqb (givenOf b) 0) (verdict (rowsOf b) (b .state .loaded) 0 (fields list)) (bad (givenOf b) 0)
+verdictOf list b = firstBad (bad (givenOf b) 0) (judged (rowsOf b) (b .state .loaded) None 0 (fields list))
 
 -- ---- the call
 

@@ -11,11 +11,10 @@ use Rattle.vram.specs.StepLaws.{step-acts}
 use Rattle.vram.specs.KeptLaws.{step-loaded}
 use Rattle.vram.specs.RuleLaws.{step-given}
 use Rattle.vram.specs.CaseLaws.{run-none, run-next, step-rows, number-is}
-use Rattle.list.specs.declared.Bad.{Bad}
 use Rattle.list.specs.Fields.{Field, Reads, Unreadable, sizeOf, fields}
 use Rattle.list.specs.Meaning.{numberOf, madeBy, verdict, cycles, cyclesOf, verdictOf, runCall}
 use Rattle.list.specs.VerdictLaws.{accepted-head, accepted-tail}
-use Rattle.list.specs.CallLaws.{accepted-given, verdict-fields, call-runs}
+use Rattle.list.specs.CallLaws.{accepted-given, accepted-fields, call-runs}
 
 -- fields that are accepted on a board
 pub record Accepted (at : ℕ) (fs : List Field) (b : Board) : Type 0 where
@@ -55,9 +54,7 @@ fields-perform at (Unreadable ∷ fs) b a = absurd (unreadable-refused at fs b a
 
 module _ (list : List ℕ) (b : Board) (h : verdictOf list b .number ≡ 0) where
   pub list-accepted : Accepted 0 (fields list) b
-  list-accepted =
-      let g = accepted-given list b h in
-      record { given = g; none = sym (ap (λ (v : Bad). v .number) (verdict-fields list b g)) ∙ h }
+  list-accepted = record { given = accepted-given list b h; none = accepted-fields list b h }
 
   -- what an accepted list leaves is what each of its cycles does, in order
   pub call-performs : runCall list b .after ≡ runBy effect (cyclesOf list) b

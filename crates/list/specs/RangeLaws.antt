@@ -1,5 +1,5 @@
--- No number of a list is over the highest, and no place lies past the list. Assumes nothing.
-use mathlib.Core.Path.{_≡_, refl}
+-- Which numbers a list is refused with: none is over 20, no place lies past the list, and when 20 is given. Assumes nothing.
+use mathlib.Core.Path.{_≡_, refl, sym, ap, _∙_}
 use mathlib.Core.Bool.{Bool, true, false}
 use mathlib.Core.List.{List, [], _∷_}
 use mathlib.Core.Logic.{_≢_, ⊎-elim}
@@ -13,11 +13,19 @@ use Rattle.refusals.specs.RefusalLaws.{refusing-most}
 use Rattle.vram.specs.Board.{Board}
 use Rattle.vram.specs.Step.{givenOf, rowsOf}
 use Rattle.vram.specs.RefusalLaws.{given-most}
+use Rattle.list.specs.declared.Bad.{Bad}
+use Rattle.list.specs.declared.Open.{Open}
+use Rattle.list.specs.declared.Open.the-variants.{None, At}
 use Rattle.list.specs.Tags.{lenOf}
 use Rattle.list.specs.Fields.{Field, Unreadable, tag, whole, fieldOf, sizeOf, fields}
 use Rattle.list.specs.FieldLaws.{whole-length, fields-nil, fields-whole, fields-not}
-use Rattle.list.specs.Meaning.{numberOf, madeBy, verdict, verdictOf}
-use Rattle.list.specs.CallLaws.{verdict-given, verdict-fields}
+use Rattle.list.specs.Open.{openOf}
+use Rattle.list.specs.OpenLaws.{open-most}
+use Rattle.list.specs.Meaning.{numberOf, madeBy, bad, verdict, readable, leftBehind, verdictOf}
+use Rattle.list.specs.JudgeLaws.{left-none, left-at}
+use Rattle.list.specs.CountLaws.{sizes-all}
+use Rattle.list.specs.PerformLaws.{Accepted}
+use Rattle.list.specs.CallLaws.{accepted-readable, verdict-given, verdict-fields, verdict-left}
 use Rattle.list.specs.VerdictLaws.{size-whole, number-range, verdict-nil, verdict-good, verdict-bad}
 
 -- ---- no number is over the highest
@@ -76,13 +84,57 @@ place-in (suc n) rows made at s h =
 
 -- ---- the call
 
-pub call-most : (list : List ℕ) (b : Board) → (verdictOf list b .number ≤ highest) × (verdictOf list b .place ≤ length list)
-call-most list b = go (eqb (givenOf b) 0) refl
+-- the open mask load's offset too
+left-in : (list : List ℕ) → readable (fields list) ≡ true → leftBehind (openOf list) .place ≤ length list
+left-in list r = open-most (length list) 0 (fields list) None (omega (arith, sizes-all list r)) (rw left-none (omega arith))
+
+left-most : (left : Open) → leftBehind left .number ≤ 20
+left-most None = rw left-none (omega arith)
+left-most (At place) = rw (left-at place) (omega arith)
+
+pub call-most : (list : List ℕ) (b : Board) → (verdictOf list b .number ≤ 20) × (verdictOf list b .place ≤ length list)
+call-most list b = go (eqb (givenOf b) 0) refl (eqb (fieldsIn .number) 0) refl
   where
-    go : (t : Bool) → eqb (givenOf b) 0 ≡ t → (verdictOf list b .number ≤ highest) × (verdictOf list b .place ≤ length list)
-    go true e =
-        let p = place-in (length list) (rowsOf b) (b .state .loaded) 0 list (omega arith) in
-        rw (verdict-fields list b (eqb-true _ _ e)) (verdict-most (rowsOf b) (b .state .loaded) 0 (fields list), omega arith)
-    go false e =
+    fieldsIn : Bad
+    fieldsIn = verdict (rowsOf b) (b .state .loaded) 0 (fields list)
+
+    go : (t : Bool) → eqb (givenOf b) 0 ≡ t → (u : Bool) → eqb (fieldsIn .number) 0 ≡ u → (verdictOf list b .number ≤ 20) × (verdictOf list b .place ≤ length list)
+    go false e u f =
         let m = given-most (b .state) (length (b .memory)) (length (b .serial)) in
         rw (verdict-given list b (eqb-false _ _ e)) (omega arith, omega arith)
+    go true e false f =
+        let p = place-in (length list) (rowsOf b) (b .state .loaded) 0 list (omega arith) in
+        let m = verdict-most (rowsOf b) (b .state .loaded) 0 (fields list) in
+        rw (verdict-fields list b (eqb-true _ _ e) (eqb-false _ _ f)) (omega arith, omega arith)
+    go true e true f =
+        let z = eqb-true _ _ f in
+        rw (verdict-left list b (eqb-true _ _ e) z)
+        (left-most (openOf list), left-in list (accepted-readable (rowsOf b) (b .state .loaded) 0 (fields list) z))
+
+-- ---- 20 is given where, and only where, all else passes and a mask load is left open; the place is its offset
+
+opened : (left : Open) → leftBehind left .number ≡ 20 → left ≡ At (leftBehind left .place)
+unfolding leftBehind
+opened None e = absurd (omega arith)
+opened (At place) e = refl
+
+module _ (list : List ℕ) (b : Board) where
+  pub left-refused : Accepted 0 (fields list) b → (place : ℕ) → openOf list ≡ At place → verdictOf list b ≡ bad 20 place
+  left-refused a place e = verdict-left list b (a .given) (a .none) ∙ ap leftBehind e ∙ left-at place
+
+  pub refused-left : verdictOf list b .number ≡ 20 → Accepted 0 (fields list) b × (openOf list ≡ At (verdictOf list b .place))
+  refused-left h = go (eqb (givenOf b) 0) refl (eqb (verdict (rowsOf b) (b .state .loaded) 0 (fields list) .number) 0) refl
+    where
+      go : (t : Bool) → eqb (givenOf b) 0 ≡ t → (u : Bool) → eqb (verdict (rowsOf b) (b .state .loaded) 0 (fields list) .number) 0 ≡ u
+          → Accepted 0 (fields list) b × (openOf list ≡ At (verdictOf list b .place))
+      go false e u f =
+          let v = ap (λ (w : Bad). w .number) (verdict-given list b (eqb-false _ _ e)) in
+          absurd (omega (arith, given-most (b .state) (length (b .memory)) (length (b .serial)), v, h))
+      go true e false f =
+          let v = ap (λ (w : Bad). w .number) (verdict-fields list b (eqb-true _ _ e) (eqb-false _ _ f)) in
+          absurd (omega (arith, verdict-most (rowsOf b) (b .state .loaded) 0 (fields list), v, h))
+      go true e true f =
+          let v = verdict-left list b (eqb-true _ _ e) (eqb-true _ _ f) in (
+            record { given = eqb-true _ _ e; none = eqb-true _ _ f },
+            opened (openOf list) (sym (ap (λ (w : Bad). w .number) v) ∙ h) ∙ ap (λ (w : Bad). At (w .place)) (sym v),
+          )

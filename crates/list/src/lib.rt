@@ -2,27 +2,38 @@
 // It is checked whole, then run in order over the cycles of `vram`, which this crate knows only by their contracts.
 ghost use mathlib.Core.Path.{_≡_};
 ghost use Rattle.vram.specs.Board.{board};
+ghost use Rattle.list.specs.declared.Open.the-variants.{None};
 ghost use Rattle.list.specs.Fields.{fields};
 ghost use Rattle.list.specs.Heads.{headOf};
-ghost use Rattle.list.specs.Meaning.{verdict, outcome, runCall};
+ghost use Rattle.list.specs.Meaning.{judged, outcome, runCall};
 
 mod checks;
 mod fields;
+mod left;
 mod runs;
 
 use checks::field_number;
 use fields::body_length;
 use fields::waits;
 use fields::whole;
+use left::first_bad;
+use left::left_behind;
+use left::opens;
 use runs::cycle_of;
 use runs::run_fields;
 use vram::Cycle;
 use vram::Vram;
 
-// The first refused field's number and offset; zeros where nothing is refused.
+// The number that a list is refused with and the offset of the field that it is about; zeros where nothing is refused.
 pub struct Bad {
     pub number: u32,
     pub place: u64,
+}
+
+// The last mask load of some fields, where no reset refresh comes after it: none, or its offset.
+pub enum Open {
+    None,
+    At(u64),
 }
 
 // The field at the head of some bytes: one that more bytes may yet make, one that none can, or a cycle and how many bytes it takes.
@@ -55,13 +66,14 @@ pub fn head_of(bytes: &[u8]) -> Head
     Head::Wrong
 }
 
-// The first refused field of a list, for the rows fitted and whether a full transfer has been made. One made by a field counts for those
-// after it.
+// What refuses a list, for the rows fitted and whether a full transfer has been made: the first refused field, and then a mask load that is
+// left open. A full transfer made by a field counts for those after it.
 pub fn check(list: &[u8], rows: usize, loaded: bool) -> Bad
-    ensures { λ r. ⌜ r ≡ verdict rows loaded 0 (fields (now (list .entry))) ⌝ }
+    ensures { λ r. ⌜ r ≡ judged rows loaded None 0 (fields (now (list .entry))) ⌝ }
 {
     let mut rest = list;
     let mut made = loaded;
+    let mut left = Open::None;
     let bad = loop {
         if rest.len() == 0 {
             break Bad {
@@ -70,8 +82,8 @@ pub fn check(list: &[u8], rows: usize, loaded: bool) -> Bad
             };
         }
         let n = field_number(rest, rows, made);
+        let at = list.len() - rest.len();
         if n != numbers::DONE {
-            let at = list.len() - rest.len();
             break Bad {
                 number: n,
                 place: at as u64,
@@ -79,10 +91,14 @@ pub fn check(list: &[u8], rows: usize, loaded: bool) -> Bad
         }
         let tag = rest[0];
         let size = 3 + body_length(tag);
-        made = made | (tag == 6);
+        // Writes and colour loads, of which fills are made, leave both as they are.
+        if 3 < tag {
+            made = made | (tag == 6);
+            left = opens(left, tag, at as u64);
+        }
         rest = &rest[size..];
     };
-    bad
+    first_bad(bad, left_behind(left))
 }
 
 // A list is checked whole, then run in order. A refusal changes nothing.
@@ -108,7 +124,7 @@ pub fn run(state: Vram, memory: &mut [u16], serial: &mut [u16], list: &[u8]) -> 
     let after = run_fields(state, memory, serial, list);
     Ran {
         state: after,
-        number: numbers::DONE,
-        place: 0,
+        number: bad.number,
+        place: bad.place,
     }
 }

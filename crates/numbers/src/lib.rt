@@ -1,5 +1,5 @@
-// The numbers given back: document 01, "Numbers given back"; 16 and 17 are change request M-100's, 19 is M-107's. Each call answers one
-// of them; 0 is done, and of several that hold the lowest is given.
+// The numbers given back: document 01, "Numbers given back"; 16 and 17 are change request M-100's, 19 is M-107's, 20 is M-111's. Each
+// call answers one of them; 0 is done, and of several that hold the lowest is given.
 ghost use mathlib.Core.Path.{_≡_};
 ghost use Rattle.numbers.specs.Refuse.{refuse};
 
@@ -40,6 +40,8 @@ pub const SETTING_OTHER: u32 = 16;
 pub const VIDEO_OFF_OR_OVERRIDE: u32 = 17;
 
 pub const PARTITION_OTHER: u32 = 19;
+
+pub const MASK_LEFT_BEHIND: u32 = 20;
 
 // The number where the test fails; where it holds, what the later tests say.
 pub fn refuse(holds: bool, number: u32, later: u32) -> u32

@@ -44,3 +44,5 @@ pub mod ItCounts
 pub mod AsDemanded
 -- W, B and the count
 pub mod ClosedForm
+-- a fill after a list
+pub mod AfterList

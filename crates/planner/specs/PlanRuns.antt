@@ -31,7 +31,7 @@ use Rattle.planner.specs.Calls.{listOf}
 use Rattle.planner.specs.Paint.{painted, Wide, Memory, Start}
 use Rattle.planner.specs.PaintLaws.{painted-length, drawn-at}
 use Rattle.planner.specs.PlanPaints.{words-paint, blocks-paint}
-use Rattle.planner.specs.AcceptedLaws.{plan-accepted}
+use Rattle.planner.specs.AcceptedLaws.{plan-accepted, plan-tags}
 
 -- through a mask of 0 nothing is drawn
 painted-nothing : (f : Fill) (m : List ℕ) → f .mask ≡ 0 → Memory (f .rows) m → painted f m ≡ m
@@ -94,4 +94,5 @@ module _ (f : Fill) (sound : Sound f) (wide : Wide f) (b : Board) (start : Start
   list-runs =
       encoded-run (plan f) b given-board
       (λ c m made. ap (λ (n : ℕ). refusal n made c) rows-board ∙ plan-accepted f c m made)
+      (λ c m e. omega (arith, plan-tags f c m, e))
       ∙ ap (gives (bad 0 0)) plan-runs

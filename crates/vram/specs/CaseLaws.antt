@@ -1,6 +1,6 @@
 -- The definitions case by case, so that other crates need not open them. Assumes nothing.
 use mathlib.Core.Path.{_≡_, refl, ap, _∙_}
-use mathlib.Core.Bool.{Bool, true, _||_}
+use mathlib.Core.Bool.{Bool, true, false, _||_, cond}
 use mathlib.Core.List.{List, [], _∷_}
 use mathlib.Core.Logic.{_≢_, inl, ⊎-elim}
 use Prim.Native.Nat.{ℕ, _/_, _≤_, _<_}
@@ -16,7 +16,7 @@ use Rattle.vram.specs.Step.{givenOf, rowsOf, number, Engine, runBy, step
 use Rattle.vram.specs.StepLaws.{run-holds}
 use Rattle.vram.specs.RuleLaws.{step-sized, run-sized, step-given}
 use Rattle.vram.specs.Calls.{cycleCall}
-use Rattle.vram.specs.Kinds.{tagOf, loads}
+use Rattle.vram.specs.Kinds.{tagOf, loads, persists}
 
 -- ---- a cycle's call leaves what a step leaves
 
@@ -151,8 +151,12 @@ pub tag-stop : (length : ℕ) → tagOf (StopPoints length) ≡ 9
 unfolding tagOf
 tag-stop length = refl
 
--- only a full transfer (6) counts as one made
+-- ---- only a full transfer (6) counts as one made; a mask load (4) makes the mask persistent and a reset refresh (5) ends it
 
 pub loads-tag : (c : Cycle) (made : Bool) → loads c made ≡ (made || eqb (tagOf c) 6)
 unfolding loads
 loads-tag c made = refl
+
+pub persists-tag : (c : Cycle) (before : Bool) → persists c before ≡ cond (eqb (tagOf c) 4) true (cond (eqb (tagOf c) 5) false before)
+unfolding persists
+persists-tag c before = refl

@@ -17,7 +17,7 @@ use Rattle.vram.specs.Board.{Board, board, effect}
 use Rattle.vram.specs.Refusal.{refusal}
 use Rattle.vram.specs.Step.{number, step}
 use Rattle.vram.specs.StepLaws.{step-acts, step-holds}
-use Rattle.vram.specs.Kinds.{tagOf, loads}
+use Rattle.vram.specs.Kinds.{tagOf, loads, persists}
 use Rattle.vram.specs.Writes.{Writes, nothing, writes, written}
 use Rattle.vram.specs.Sets.{Sets, registers, sets, sent, effect-is, effect-writes}
 
@@ -27,9 +27,9 @@ pub record Kept (c : Cycle) (s : Vram) : Type 0 where
   pub others : tagOf c < 3 → sets c s ≡ registers s
   -- only a colour load (3) changes the colour register
   pub colour : tagOf c ≢ 3 → sets c s .state .colour ≡ s .colour
-  -- only a mask load (4) changes the mask register, and only it and a reset refresh (5) change its persistence
+  -- only a mask load (4) changes the mask register; it makes the mask persistent, and a reset refresh (5) ends that
   pub mask : tagOf c ≢ 4 → sets c s .state .mask ≡ s .mask
-  pub persistent : tagOf c ≢ 4 → tagOf c ≢ 5 → sets c s .state .persistent ≡ s .persistent
+  pub persistent : sets c s .state .persistent ≡ persists c (s .persistent)
   -- only transfers (6 and 7) change the serial register, the pointer and the waiting tap
   pub serial : tagOf c ≢ 6 → tagOf c ≢ 7 → sets c s ≡ registers (withSerial (sets c s .state) (s .loaded) (s .pointer) (s .waiting))
   -- only a reset refresh (5) and stop points (9) change the length of a partition
@@ -64,14 +64,14 @@ other-half p t h = ne-eqb _ _ (go (ltb p 128) refl)
     go false e q = let k : 128 ≤ p = ltb-false p 128 e in omega arith
 
 -- a write sets no register and copies nothing
-draws : (c : Cycle) (s : Vram) → tagOf c < 3 → sets c s ≡ registers s → s .loaded ≡ loads c (s .loaded) → Kept c s
-draws c s t e l =
+draws : (c : Cycle) (s : Vram) → tagOf c < 3 → sets c s ≡ registers s → s .loaded ≡ loads c (s .loaded) → s .persistent ≡ persists c (s .persistent) → Kept c s
+draws c s t e l p =
     record {
       memory = λ h. absurd (omega arith);
       others = λ h. e;
       colour = λ h. ap (λ (x : Sets). x .state .colour) e;
       mask = λ h. ap (λ (x : Sets). x .state .mask) e;
-      persistent = λ h k. ap (λ (x : Sets). x .state .persistent) e;
+      persistent = ap (λ (x : Sets). x .state .persistent) e ∙ p;
       serial = λ h k. rw e;
       stop = λ h k. ap (λ (x : Sets). x .state .stop) e;
       loaded = ap (λ (x : Sets). x .state .loaded) e ∙ l;
@@ -80,17 +80,17 @@ draws c s t e l =
     }
 
 pub kept : (c : Cycle) (s : Vram) → Kept c s
-unfolding writes sets tagOf loads refusal ruled
-kept (WordWrite row column word masking mask strobes) s = draws (WordWrite row column word masking mask strobes) s (lit≤ tt) refl (either (s .loaded))
+unfolding writes sets tagOf loads persists refusal ruled
+kept (WordWrite row column word masking mask strobes) s = draws (WordWrite row column word masking mask strobes) s (lit≤ tt) refl (either (s .loaded)) refl
 kept (BlockWrite row column columns masking mask strobes) s =
-    draws (BlockWrite row column columns masking mask strobes) s (lit≤ tt) refl (either (s .loaded))
+    draws (BlockWrite row column columns masking mask strobes) s (lit≤ tt) refl (either (s .loaded)) refl
 kept (LoadColour word strobes) s =
     record {
       memory = λ h. refl;
       others = λ h. absurd (omega arith);
       colour = λ h. absurd (h refl);
       mask = λ h. refl;
-      persistent = λ h k. refl;
+      persistent = refl;
       serial = λ h k. refl;
       stop = λ h k. refl;
       loaded = either (s .loaded);
@@ -103,7 +103,7 @@ kept (LoadMask word strobes) s =
       others = λ h. absurd (omega arith);
       colour = λ h. refl;
       mask = λ h. absurd (h refl);
-      persistent = λ h k. absurd (h refl);
+      persistent = refl;
       serial = λ h k. refl;
       stop = λ h k. refl;
       loaded = either (s .loaded);
@@ -116,7 +116,7 @@ kept ResetRefresh s =
       others = λ h. absurd (omega arith);
       colour = λ h. refl;
       mask = λ h. refl;
-      persistent = λ h k. absurd (k refl);
+      persistent = refl;
       serial = λ h k. refl;
       stop = λ h k. absurd (h refl);
       loaded = either (s .loaded);
@@ -129,7 +129,7 @@ kept (FullTransfer row half tap) s =
       others = λ h. absurd (omega arith);
       colour = λ h. refl;
       mask = λ h. refl;
-      persistent = λ h k. refl;
+      persistent = refl;
       serial = λ h k. absurd (h refl);
       stop = λ h k. refl;
       loaded = always (s .loaded);
@@ -142,7 +142,7 @@ kept (SplitTransfer row half tap) s =
       others = λ h. absurd (omega arith);
       colour = λ h. refl;
       mask = λ h. refl;
-      persistent = λ h k. refl;
+      persistent = refl;
       serial = λ h k. absurd (k refl);
       stop = λ h k. refl;
       loaded = either (s .loaded);
@@ -158,13 +158,17 @@ kept (StopPoints length) s =
       others = λ h. absurd (omega arith);
       colour = λ h. refl;
       mask = λ h. refl;
-      persistent = λ h k. refl;
+      persistent = refl;
       serial = λ h k. refl;
       stop = λ h k. absurd (k refl);
       loaded = either (s .loaded);
       rule = λ rows z h. h;
       copy = λ words z. (omega arith, omega arith);
     }
+
+persists-other : (c : Cycle) → tagOf c ≢ 4 → tagOf c ≢ 5 → (before : Bool) → persists c before ≡ before
+unfolding persists
+persists-other c h k before = rw (ne-eqb (tagOf c) 4 h, ne-eqb (tagOf c) 5 k)
 
 -- ---- so a cycle, refused or not, keeps what its tag does not change
 
@@ -192,10 +196,13 @@ module _ (b : Board) where
   mask-kept c h =
       step-holds (λ x. x .state .mask ≡ b .state .mask) effect c b refl (λ z. ap (λ (x : Vram). x .mask) (state-is c) ∙ kept c (b .state) .mask h)
 
+  effect-persistent : (c : Cycle) → effect c b .state .persistent ≡ persists c (b .state .persistent)
+  effect-persistent c = ap (λ (x : Vram). x .persistent) (state-is c) ∙ kept c (b .state) .persistent
+
   pub persistent-kept : (c : Cycle) → tagOf c ≢ 4 → tagOf c ≢ 5 → step c b .state .persistent ≡ b .state .persistent
   persistent-kept c h k =
       step-holds (λ x. x .state .persistent ≡ b .state .persistent) effect c b refl
-      (λ z. ap (λ (x : Vram). x .persistent) (state-is c) ∙ kept c (b .state) .persistent h k)
+      (λ z. effect-persistent c ∙ persists-other c h k (b .state .persistent))
 
   pub stop-kept : (c : Cycle) → tagOf c ≢ 5 → tagOf c ≢ 9 → step c b .state .stop ≡ b .state .stop
   stop-kept c h k =
@@ -230,3 +237,8 @@ module _ (b : Board) where
 
   pub step-loaded : (c : Cycle) → number c b ≡ 0 → step c b .state .loaded ≡ loads c (b .state .loaded)
   step-loaded c z = ap (λ (x : Board). x .state .loaded) (step-acts effect c b z) ∙ effect-loaded c
+
+  -- ---- and whether the mask is persistent
+
+  pub step-persistent : (c : Cycle) → number c b ≡ 0 → step c b .state .persistent ≡ persists c (b .state .persistent)
+  step-persistent c z = ap (λ (x : Board). x .state .persistent) (step-acts effect c b z) ∙ effect-persistent c

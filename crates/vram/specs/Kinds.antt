@@ -1,6 +1,7 @@
--- Kinds of cycles: the tags of document 01 and M-107, what a cycle writes to, and what a full transfer makes of `loaded`. Assumes nothing.
+-- Kinds of cycles: the tags of document 01 and M-107, what a cycle writes to, and what it makes of `loaded` and of persistence. Assumes
+-- nothing.
 use Prim.Native.Nat.{ℕ}
-use mathlib.Core.Bool.{Bool, false, _||_}
+use mathlib.Core.Bool.{Bool, true, false, _||_, cond}
 use lib.Dec.{eqb}
 use Rattle.vram.specs.declared.Cycle.{Cycle}
 use Rattle.vram.specs.declared.Cycle.the-variants.{WordWrite, BlockWrite, LoadColour, LoadMask, ResetRefresh, FullTransfer, SplitTransfer, StopPoints}
@@ -43,3 +44,7 @@ names r c = inRow r (targetOf c)
 -- whether a full transfer (tag 6) has been made, after a cycle
 unfoldable pub loads : Cycle → Bool → Bool
 loads c made = made || eqb (tagOf c) 6
+
+-- whether the mask is persistent, after a cycle: from a mask load (tag 4) on, and no longer from a reset refresh (tag 5) on
+unfoldable pub persists : Cycle → Bool → Bool
+persists c before = cond (eqb (tagOf c) 4) true (cond (eqb (tagOf c) 5) false before)

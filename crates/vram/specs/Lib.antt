@@ -14,7 +14,7 @@ pub mod Step
 pub mod Serial
 -- what each call answers and leaves
 pub mod Calls
--- tags, and what a cycle writes to
+-- tags, what a cycle writes to, and what it makes of `loaded` and persistence
 pub mod Kinds
 -- what a cycle aims at
 pub mod Aims
@@ -44,7 +44,7 @@ pub mod StopLaws
 pub mod Partition
 -- the pointer's motion
 pub mod SerialLaws
--- lengths, rows and the state's rule are kept
+-- lengths, the width of words, rows and the state's rule are kept
 pub mod RuleLaws
 -- at length 128 the motion is document 01's
 pub mod HalfLaws

@@ -1,4 +1,4 @@
--- A cycle keeps the lengths and the rows it does not name; a cycle and a clock keep the state's rule. Assumes nothing.
+-- A cycle keeps the lengths, the width of words and the rows it does not name; a cycle and a clock keep the state's rule. Assumes nothing.
 use mathlib.Core.Path.{_≡_, refl, sym, ap, _∙_}
 use mathlib.Core.Bool.{Bool, true, false, cond}
 use mathlib.Core.List.{List}
@@ -7,7 +7,7 @@ use Prim.Native.Nat.{ℕ, zero, suc, _-_, _%_, _<_}
 use native.Mathlib.Omega.{arith}
 use native.Mathlib.Nat.{mod-eq-of-lt}
 use lib.Dec.{eqb}
-use lib.ListN.{length}
+use lib.ListN.{length, getD}
 use borrow.Author.Tests.{eqb-false}
 use Rattle.vram.specs.declared.Vram.{Vram}
 use Rattle.vram.specs.declared.Waiting.{Waiting}
@@ -21,7 +21,7 @@ use Rattle.vram.specs.RefusalLaws.{given-zero, given-rule}
 use Rattle.vram.specs.Step.{givenOf, rowsOf, number, step, run}
 use Rattle.vram.specs.StepLaws.{number-zero, step-holds, run-holds}
 use Rattle.vram.specs.Kinds.{names}
-use Rattle.vram.specs.Writes.{writes, written, written-length, rowOf, written-row}
+use Rattle.vram.specs.Writes.{writes, written, written-length, written-words, rowOf, written-row}
 use Rattle.vram.specs.Sets.{sets, effect-is, effect-writes}
 use Rattle.vram.specs.KeptLaws.{kept}
 use Rattle.vram.specs.AimLaws.{aimed}
@@ -54,6 +54,15 @@ run-sized l b =
     run-holds (λ x. Sized x b) step
     (λ c x k. record { memory = step-sized c x .memory ∙ k .memory; serial = step-sized c x .serial ∙ k .serial })
     l b (record { memory = refl; serial = refl })
+
+-- ---- words of 16 bits stay such
+
+pub step-words : (c : Cycle) (b : Board) → ((a : ℕ) → getD (b .memory) a 0 < 65536) → (a : ℕ) → getD (step c b .memory) a 0 < 65536
+step-words c b h =
+    step-holds (λ x. (a : ℕ) → getD (x .memory) a 0 < 65536) effect c b h (λ z a. rw (effect-writes c b) (written-words (writes c (b .state)) (b .memory) h a))
+
+pub run-words : (l : List Cycle) (b : Board) → ((a : ℕ) → getD (b .memory) a 0 < 65536) → (a : ℕ) → getD (run l b .memory) a 0 < 65536
+run-words = run-holds (λ x. (a : ℕ) → getD (x .memory) a 0 < 65536) step step-words
 
 -- ---- rows: a write touches only the row that it names
 

@@ -6,11 +6,11 @@ use mathlib.Core.Logic.{_≢_, _⊎_, inl, inr}
 use Prim.Native.Nat.{ℕ, _+_, _-_, _*_, _/_, _≤_, _<_}
 use native.Mathlib.Omega.{arith}
 use lib.Dec.{ltb}
-use lib.ListN.{length, getD, take, drop}
+use lib.ListN.{length, getD, take, drop, List·getD-eq-default}
 use borrow.Author.Tests.{ltb-true, ltb-false}
 use Rattle.words.specs.Bit.{bit}
 use Rattle.words.specs.Word.{merged, lets}
-use Rattle.words.specs.WordLaws.{merged-bit}
+use Rattle.words.specs.WordLaws.{merged-lt, merged-bit}
 use Rattle.vram.specs.declared.Vram.{Vram}
 use Rattle.vram.specs.declared.Cycle.{Cycle}
 use Rattle.vram.specs.declared.Cycle.the-variants.{WordWrite, BlockWrite, LoadColour, LoadMask, ResetRefresh, FullTransfer, SplitTransfer, StopPoints}
@@ -73,6 +73,21 @@ module _ (w : Writes) (m : List ℕ) where
           ≡ cond (t && w .through (a - base w) i) (bit (w .pen) i) (bit (getD m a 0) i)
       go true = merged-bit (getD m a 0) (w .pen) (w .through (a - base w)) i k
       go false = refl
+
+  -- words of 16 bits stay such
+  pub written-words : ((a : ℕ) → getD m a 0 < 65536) → (a : ℕ) → getD (written w m) a 0 < 65536
+  written-words h a = go (ltb a (length m)) refl
+    where
+      word : (t : Bool) → cond t (merged (getD m a 0) (w .pen) (w .through (a - base w))) (getD m a 0) < 65536
+      word true = merged-lt (getD m a 0) (w .pen) (w .through (a - base w))
+      word false = h a
+
+      go : (t : Bool) → ltb a (length m) ≡ t → getD (written w m) a 0 < 65536
+      go true e = rw (written-at a (ltb-true _ _ e)) (word (among (base w) (w .count) a))
+      go false e =
+          let l : length m ≤ a = ltb-false _ _ e in
+          let k : length (written w m) ≤ a = omega (arith, written-length) in
+          rw (List·getD-eq-default (written w m) 0 k) (omega arith)
 
 -- the words of row r
 abbrev pub rowOf : ℕ → List ℕ → List ℕ
