@@ -32,9 +32,10 @@ extern "C" {
 /* Since 4.7.0 a list must not leave its mask behind: one with a mask load and no reset refresh after it is refused whole with number 20, new,
  * at the offset of its last mask load. A program whose lists load the mask must change: each such list ends with linkshoar_put_reset_refresh,
  * or has it somewhere after its last mask load, and what is to be drawn through the mask stands before it in the same list. One list can no
- * longer load a mask for the next to draw through, or to reset. The reset refresh brings partitions of 128 back, whether this list or an
- * earlier one has set stop points: a program that uses them sets them again after it. A list without a mask load is judged as before, also
- * where the mask came in persistent.
+ * longer load a mask for the next to draw through, or to reset; the second of such a pair is accepted as before and would draw without that
+ * mask, so the two are joined. The reset refresh brings partitions of 128 back, whether this list or an earlier one has set stop points: a
+ * program that uses them sets them again after it. A list without a mask load is judged as before, also where the mask came in persistent:
+ * a list of one reset refresh puts a state right that an older program kept so.
  * Since 4.6.0 linkshoar_vram has a last member, stop: the length of a partition of the serial register. Compiled again, a program that takes
  * its states from linkshoar_vram_fresh and from answers need not change. One that makes a linkshoar_vram itself, or keeps its members one by
  * one, must: stop is 128 where no list has set it, and a state with a stop of 0, as {0} has, is refused with 1. The struct has its old size:
@@ -120,7 +121,7 @@ enum {
 /* The video RAM's registers. */
 typedef struct {
     uint16_t colour, mask; /* colour: what a block write paints; mask: in force for masked writes while it is persistent */
-    uint8_t persistent;    /* 1 from a mask load to a reset refresh */
+    uint8_t persistent;    /* 1 from a mask load to a reset refresh: since 4.7.0 both stand in one list, and no call makes 1 of 0 */
     uint8_t loaded;        /* 1 once a full transfer has been made */
     uint8_t pointer;       /* the place in the serial register that the next clock reads */
     uint8_t waiting, tap;  /* waiting: 1 where a split transfer's tap waits for the end of the pointer's partition; else both are 0 */
@@ -145,7 +146,8 @@ typedef struct {
 typedef struct {
     linkshoar_vram state;
     uint32_t number;
-    uint64_t place; /* of 4 to 10, and 19: the offset of the field that is refused; of 20: of the last mask load; else 0 */
+    uint64_t place; /* of 4 to 10, and 19: the offset of the field that is refused, in bytes from the list's first; of 20: of the last mask
+                       load; else 0 */
 } linkshoar_ran;
 
 typedef struct {
@@ -352,8 +354,8 @@ linkshoar_filled linkshoar_fill(uint32_t rows, uint32_t first_row, uint32_t end_
                                 uint16_t mask, uint16_t colour, uint32_t persistent, uint8_t *list, size_t length);
 
 /* Checks a list whole, then runs it in order; length: the list's bytes. A list with a mask load or a reset refresh, where it is not refused,
- * leaves the mask not persistent; any other leaves persistence as it was. So from a fresh state on, if persistent is always the state's, no
- * fill is refused with 13. Refused with 1 to 10, 19, 20. */
+ * leaves the mask not persistent; any other leaves persistence as it was. So from a fresh state on no fill that is given the state's own
+ * persistent is refused with 13. Refused with 1 to 10, 19, 20. */
 linkshoar_ran linkshoar_list_run(linkshoar_vram state, uint16_t *memory, size_t words, uint16_t *serial, size_t serial_words,
                                  const uint8_t *list, size_t length);
 

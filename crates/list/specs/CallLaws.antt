@@ -13,7 +13,7 @@ use Rattle.list.specs.Fields.{Field, Reads, Unreadable, sizeOf, fields}
 use Rattle.list.specs.Open.{openOf}
 use Rattle.list.specs.Meaning.{numberOf, madeBy, bad, verdict, readable, cyclesOf, leftBehind, judged, verdictOf, runCallBy, runCall}
 use Rattle.list.specs.VerdictLaws.{accepted-head, accepted-tail}
-use Rattle.list.specs.JudgeLaws.{bad-first, bad-later, bad-zero, left-none, left-zero}
+use Rattle.list.specs.JudgeLaws.{bad-first, bad-later, bad-zero, left-none, left-zero, judged-refused, judged-passed}
 
 -- ---- accepted fields can be read
 
@@ -40,13 +40,11 @@ module _ (list : List ℕ) (b : Board) where
     -- then the first field that is refused
     pub verdict-fields : verdict (rowsOf b) (b .state .loaded) 0 (fields list) .number ≢ 0
         → verdictOf list b ≡ verdict (rowsOf b) (b .state .loaded) 0 (fields list)
-    unfolding judged
-    verdict-fields h = verdict-judged ∙ bad-first (verdict (rowsOf b) (b .state .loaded) 0 (fields list)) _ h
+    verdict-fields h = verdict-judged ∙ judged-refused (rowsOf b) (b .state .loaded) None 0 (fields list) h
 
     -- and where none is, what is left behind
     pub verdict-left : verdict (rowsOf b) (b .state .loaded) 0 (fields list) .number ≡ 0 → verdictOf list b ≡ leftBehind (openOf list)
-    unfolding judged
-    verdict-left h = verdict-judged ∙ bad-later (verdict (rowsOf b) (b .state .loaded) 0 (fields list)) _ h
+    verdict-left h = verdict-judged ∙ judged-passed (rowsOf b) (b .state .loaded) None 0 (fields list) h
 
   -- an accepted list passes all three: the state and the lengths are as they should be
   module _ (h : verdictOf list b .number ≡ 0) where

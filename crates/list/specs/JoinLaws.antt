@@ -25,7 +25,7 @@ use Rattle.list.specs.Meaning.{numberOf, madeBy, bad, verdict, cycles, r
 use Rattle.list.specs.VerdictLaws.{verdict-good, accepted-head, accepted-tail}
 use Rattle.list.specs.Joined.{madeByAll, sizes, further, furtherOpen, decided}
 use Rattle.list.specs.CountLaws.{sizes-all}
-use Rattle.list.specs.PerformLaws.{Accepted, first-acts, others-accepted, unreadable-refused, list-accepted}
+use Rattle.list.specs.PerformLaws.{Passes, first-acts, others-pass, unreadable-refused, list-passes}
 use Rattle.list.specs.CallLaws.{accepted-readable, verdict-judged, accepted-given, accepted-closed, call-runs}
 
 -- ---- fields one after the other
@@ -97,12 +97,12 @@ judged-further n rows made left at fs =
 
 -- ---- what the check carried is what the run leaves: `loaded` at the end of accepted fields
 
-pub run-loaded : (at : ℕ) (fs : List Field) (b : Board) → Accepted at fs b → run (cycles fs) b .state .loaded ≡ madeByAll fs (b .state .loaded)
+pub run-loaded : (at : ℕ) (fs : List Field) (b : Board) → Passes at fs b → run (cycles fs) b .state .loaded ≡ madeByAll fs (b .state .loaded)
 unfolding cycles madeByAll madeBy
 run-loaded at [] b a = ap (λ (x : Board). x .state .loaded) (run-none step b)
 run-loaded at (Reads c n ∷ fs) b a =
     ap (λ (x : Board). x .state .loaded) (run-next step c (cycles fs) b)
-    ∙ run-loaded (at + sizeOf (Reads c n)) fs (step c b) (others-accepted at c n fs b a)
+    ∙ run-loaded (at + sizeOf (Reads c n)) fs (step c b) (others-pass at c n fs b a)
     ∙ ap (madeByAll fs) (step-loaded b c (first-acts at c n fs b a))
 run-loaded at (Unreadable ∷ fs) b a = absurd (unreadable-refused at fs b a)
 
@@ -124,7 +124,7 @@ module _ (a b : List ℕ) (r : readable (fields a) ≡ true) where
 
 -- ---- a list whose fields pass, then another
 
-module _ (a : List ℕ) (x : Board) (p : Accepted 0 (fields a) x) where
+module _ (a : List ℕ) (x : Board) (p : Passes 0 (fields a) x) where
   passed-readable : readable (fields a) ≡ true
   passed-readable = accepted-readable (rowsOf x) (x .state .loaded) 0 (fields a) (p .none)
 
@@ -146,11 +146,11 @@ module _ (a : List ℕ) (x : Board) (p : Accepted 0 (fields a) x) where
 module _ (a : List ℕ) (x : Board) (h : verdictOf a x .number ≡ 0) where
   -- each of its fields can be read
   pub call-readable : readable (fields a) ≡ true
-  call-readable = passed-readable a x (list-accepted a x h)
+  call-readable = passed-readable a x (list-passes a x h)
 
   -- `loaded` at the end of an accepted list
   pub call-loaded : runCall a x .after .state .loaded ≡ madeByAll (fields a) (x .state .loaded)
-  call-loaded = ap (λ (y : Board). y .state .loaded) (call-runs a x h) ∙ run-loaded 0 (fields a) x (list-accepted a x h)
+  call-loaded = ap (λ (y : Board). y .state .loaded) (call-runs a x h) ∙ run-loaded 0 (fields a) x (list-passes a x h)
 
   call-given-kept : givenOf (runCall a x .after) ≡ 0
   call-given-kept = ap givenOf (call-runs a x h) ∙ run-given (cyclesOf a) x ∙ accepted-given a x h
@@ -162,7 +162,7 @@ module _ (a b : List ℕ) (x : Board) (h : verdictOf a x .number ≡ 0) where
   pub joined-verdict : verdictOf (a ++ b) x ≡ further (length a) (verdictOf b (runCall a x .after))
   joined-verdict =
       let y = runCall a x .after in
-      joined-judged a x (list-accepted a x h) b
+      joined-judged a x (list-passes a x h) b
       ∙ ap (λ (z : Board). judged (rowsOf z) (z .state .loaded) (openOf a) (length a) (fields b)) (sym (call-runs a x h))
       ∙ ap₂ (λ (o : Open) (n : ℕ). judged (rowsOf y) (y .state .loaded) o n (fields b)) (accepted-closed a x h) (sym (add-zero (length a)))
       ∙ judged-further (length a) (rowsOf y) (y .state .loaded) None 0 (fields b)

@@ -11,7 +11,7 @@ use Rattle.list.specs.declared.Bad.{Bad}
 use Rattle.list.specs.declared.Open.{Open}
 use Rattle.list.specs.declared.Open.the-variants.{None, At}
 use Rattle.list.specs.Fields.{Field, sizeOf}
-use Rattle.list.specs.Open.{openBy}
+use Rattle.list.specs.Open.{openBy, openAfter}
 use Rattle.list.specs.OpenLaws.{open-nil, open-next}
 use Rattle.list.specs.Meaning.{numberOf, madeBy, bad, verdict, leftBehind, firstBad, judged}
 use Rattle.list.specs.VerdictLaws.{verdict-nil, verdict-good, verdict-bad}
@@ -54,9 +54,18 @@ left-zero (At place) h = absurd (omega arith)
 -- ---- field by field
 
 module _ (rows : ℕ) (made : Bool) (left : Open) (at : ℕ) where
+  -- a refused field decides, and where there is none what is left behind
+  module _ (fs : List Field) where
+    pub judged-refused : verdict rows made at fs .number ≢ 0 → judged rows made left at fs ≡ verdict rows made at fs
+    unfolding judged
+    judged-refused h = bad-first (verdict rows made at fs) _ h
+
+    pub judged-passed : verdict rows made at fs .number ≡ 0 → judged rows made left at fs ≡ leftBehind (openAfter at fs left)
+    unfolding judged
+    judged-passed h = bad-later (verdict rows made at fs) _ h
+
   pub judged-nil : judged rows made left at [] ≡ leftBehind left
-  unfolding judged
-  judged-nil = bad-later (verdict rows made at []) _ (ap (λ (v : Bad). v .number) (verdict-nil rows made at)) ∙ ap leftBehind (open-nil at left)
+  judged-nil = judged-passed [] (ap (λ (v : Bad). v .number) (verdict-nil rows made at)) ∙ ap leftBehind (open-nil at left)
 
   module _ (f : Field) (fs : List Field) where
     pub judged-good : numberOf rows made f ≡ 0 → judged rows made left at (f ∷ fs) ≡ judged rows (madeBy f made) (openBy at f left) (at + sizeOf f) fs
@@ -64,7 +73,6 @@ module _ (rows : ℕ) (made : Bool) (left : Open) (at : ℕ) where
     judged-good h = ap₂ (λ (v : Bad) (o : Open). firstBad v (leftBehind o)) (verdict-good rows made at f fs h) (open-next at f fs left)
 
     pub judged-bad : numberOf rows made f ≢ 0 → judged rows made left at (f ∷ fs) ≡ bad (numberOf rows made f) at
-    unfolding judged
     judged-bad h =
         let e = verdict-bad rows made at f fs h in
-        bad-first (verdict rows made at (f ∷ fs)) _ (λ z. h (sym (ap (λ (v : Bad). v .number) e) ∙ z)) ∙ e
+        judged-refused (f ∷ fs) (λ z. h (sym (ap (λ (v : Bad). v .number) e) ∙ z)) ∙ e

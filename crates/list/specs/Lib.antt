@@ -42,7 +42,7 @@ pub mod EncodeLaws
 pub mod EncodedLaws
 -- when a field is settled
 pub mod WaitsLaws
--- a refused list, then more bytes
+-- a list with a refused field, then more bytes
 pub mod MoreLaws
 -- how a list is walked
 pub mod HeadLaws

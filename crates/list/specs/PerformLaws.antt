@@ -16,20 +16,20 @@ use Rattle.list.specs.Meaning.{numberOf, madeBy, verdict, cycles, cycles
 use Rattle.list.specs.VerdictLaws.{accepted-head, accepted-tail}
 use Rattle.list.specs.CallLaws.{accepted-given, accepted-fields, call-runs}
 
--- fields that are accepted on a board
-pub record Accepted (at : ℕ) (fs : List Field) (b : Board) : Type 0 where
+-- fields of which none is refused on a board; what they leave behind is not asked
+pub record Passes (at : ℕ) (fs : List Field) (b : Board) : Type 0 where
   pub given : givenOf b ≡ 0
   pub none : verdict (rowsOf b) (b .state .loaded) at fs .number ≡ 0
 
 -- the first acts, and the others are accepted on the board that it leaves
-module _ (at : ℕ) (c : Cycle) (n : ℕ) (fs : List Field) (b : Board) (a : Accepted at (Reads c n ∷ fs) b) where
+module _ (at : ℕ) (c : Cycle) (n : ℕ) (fs : List Field) (b : Board) (a : Passes at (Reads c n ∷ fs) b) where
   pub first-acts : number c b ≡ 0
   unfolding numberOf
   first-acts = number-is c b (a .given) ∙ accepted-head (rowsOf b) (b .state .loaded) at (Reads c n) fs (a .none)
 
-  pub others-accepted : Accepted (at + sizeOf (Reads c n)) fs (step c b)
+  pub others-pass : Passes (at + sizeOf (Reads c n)) fs (step c b)
   unfolding madeBy
-  others-accepted =
+  others-pass =
       record {
         given = step-given c b ∙ a .given;
         none =
@@ -38,24 +38,24 @@ module _ (at : ℕ) (c : Cycle) (n : ℕ) (fs : List Field) (b : Board) (a : Acc
       }
 
 -- a field that cannot be read is accepted nowhere
-pub unreadable-refused : (at : ℕ) (fs : List Field) (b : Board) → Accepted at (Unreadable ∷ fs) b → ⊥
+pub unreadable-refused : (at : ℕ) (fs : List Field) (b : Board) → Passes at (Unreadable ∷ fs) b → ⊥
 unfolding numberOf
 unreadable-refused at fs b a = omega (arith, accepted-head (rowsOf b) (b .state .loaded) at Unreadable fs (a .none))
 
-pub fields-perform : (at : ℕ) (fs : List Field) (b : Board) → Accepted at fs b → run (cycles fs) b ≡ runBy effect (cycles fs) b
+pub fields-perform : (at : ℕ) (fs : List Field) (b : Board) → Passes at fs b → run (cycles fs) b ≡ runBy effect (cycles fs) b
 unfolding cycles
 fields-perform at [] b a = run-none step b ∙ sym (run-none effect b)
 fields-perform at (Reads c n ∷ fs) b a =
     run-next step c (cycles fs) b
-    ∙ fields-perform (at + sizeOf (Reads c n)) fs (step c b) (others-accepted at c n fs b a)
+    ∙ fields-perform (at + sizeOf (Reads c n)) fs (step c b) (others-pass at c n fs b a)
     ∙ ap (runBy effect (cycles fs)) (step-acts effect c b (first-acts at c n fs b a))
     ∙ sym (run-next effect c (cycles fs) b)
 fields-perform at (Unreadable ∷ fs) b a = absurd (unreadable-refused at fs b a)
 
 module _ (list : List ℕ) (b : Board) (h : verdictOf list b .number ≡ 0) where
-  pub list-accepted : Accepted 0 (fields list) b
-  list-accepted = record { given = accepted-given list b h; none = accepted-fields list b h }
+  pub list-passes : Passes 0 (fields list) b
+  list-passes = record { given = accepted-given list b h; none = accepted-fields list b h }
 
   -- what an accepted list leaves is what each of its cycles does, in order
   pub call-performs : runCall list b .after ≡ runBy effect (cyclesOf list) b
-  call-performs = call-runs list b h ∙ fields-perform 0 (fields list) b list-accepted
+  call-performs = call-runs list b h ∙ fields-perform 0 (fields list) b list-passes

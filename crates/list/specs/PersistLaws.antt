@@ -19,7 +19,7 @@ use Rattle.list.specs.Open.{opens, openBy, openAfter, openOf, isOpen}
 use Rattle.list.specs.OpenLaws.{open-nil, open-next, open-from}
 use Rattle.list.specs.Meaning.{cycles, cyclesOf, leftBehind, verdictOf, runCall}
 use Rattle.list.specs.Joined.{decided}
-use Rattle.list.specs.PerformLaws.{Accepted, first-acts, others-accepted, unreadable-refused, list-accepted}
+use Rattle.list.specs.PerformLaws.{Passes, first-acts, others-pass, unreadable-refused, list-passes}
 use Rattle.list.specs.CallLaws.{verdict-left, accepted-closed, call-runs, call-refuses}
 
 -- ---- the mask is persistent where a mask load is open
@@ -34,20 +34,20 @@ after-cycle at c left = persists-tag c (isOpen left) ∙ go (eqb (tagOf c) 4) (e
     go false false = refl
 
 -- if it was so before some fields that pass, it is so after them
-pub open-persistent : (at : ℕ) (fs : List Field) (left : Open) (b : Board) → Accepted at fs b → b .state .persistent ≡ isOpen left
+pub open-persistent : (at : ℕ) (fs : List Field) (left : Open) (b : Board) → Passes at fs b → b .state .persistent ≡ isOpen left
     → run (cycles fs) b .state .persistent ≡ isOpen (openAfter at fs left)
 unfolding cycles openBy
 open-persistent at [] left b a e = ap (λ (x : Board). x .state .persistent) (run-none step b) ∙ e ∙ ap isOpen (sym (open-nil at left))
 open-persistent at (Reads c n ∷ fs) left b a e =
     ap (λ (x : Board). x .state .persistent) (run-next step c (cycles fs) b)
-    ∙ open-persistent (at + sizeOf (Reads c n)) fs (opens (tagOf c) at left) (step c b) (others-accepted at c n fs b a)
+    ∙ open-persistent (at + sizeOf (Reads c n)) fs (opens (tagOf c) at left) (step c b) (others-pass at c n fs b a)
     (step-persistent b c (first-acts at c n fs b a) ∙ ap (persists c) e ∙ after-cycle at c left)
     ∙ ap isOpen (sym (open-next at (Reads c n) fs left))
 open-persistent at (Unreadable ∷ fs) left b a e = absurd (unreadable-refused at fs b a)
 
 -- so fields that pass, one of them a mask load or a reset refresh, leave the mask persistent just where a mask load of theirs is open; others
 -- leave persistence as it was
-pub fields-persistent : (at : ℕ) (fs : List Field) (b : Board) → Accepted at fs b
+pub fields-persistent : (at : ℕ) (fs : List Field) (b : Board) → Passes at fs b
     → run (cycles fs) b .state .persistent ≡ cond (decided fs) (isOpen (openAfter at fs None)) (b .state .persistent)
 fields-persistent at fs b a = go (b .state .persistent) refl
   where
@@ -75,12 +75,12 @@ module _ (list : List ℕ) (b : Board) where
   pub call-persistent : verdictOf list b .number ≡ 0 → runCall list b .after .state .persistent ≡ cond (decided (fields list)) false (b .state .persistent)
   call-persistent h =
       ap (λ (x : Board). x .state .persistent) (call-runs list b h)
-      ∙ fields-persistent 0 (fields list) b (list-accepted list b h)
+      ∙ fields-persistent 0 (fields list) b (list-passes list b h)
       ∙ ap (λ (o : Open). cond (decided (fields list)) (isOpen o) (b .state .persistent)) (accepted-closed list b h)
 
   module _ (plain : b .state .persistent ≡ false) where
     -- of the lists whose fields pass, 20 refuses just those whose run would leave the mask persistent
-    pub refused-persistent : Accepted 0 (fields list) b → eqb (verdictOf list b .number) 20 ≡ run (cyclesOf list) b .state .persistent
+    pub refused-persistent : Passes 0 (fields list) b → eqb (verdictOf list b .number) 20 ≡ run (cyclesOf list) b .state .persistent
     refused-persistent a =
         ap (λ (v : Bad). eqb (v .number) 20) (verdict-left list b (a .given) (a .none))
         ∙ is-open (openOf list)

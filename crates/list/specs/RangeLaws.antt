@@ -24,7 +24,7 @@ use Rattle.list.specs.OpenLaws.{open-most}
 use Rattle.list.specs.Meaning.{numberOf, madeBy, bad, verdict, readable, leftBehind, verdictOf}
 use Rattle.list.specs.JudgeLaws.{left-none, left-at}
 use Rattle.list.specs.CountLaws.{sizes-all}
-use Rattle.list.specs.PerformLaws.{Accepted}
+use Rattle.list.specs.PerformLaws.{Passes}
 use Rattle.list.specs.CallLaws.{accepted-readable, verdict-given, verdict-fields, verdict-left}
 use Rattle.list.specs.VerdictLaws.{size-whole, number-range, verdict-nil, verdict-good, verdict-bad}
 
@@ -119,14 +119,14 @@ opened None e = absurd (omega arith)
 opened (At place) e = refl
 
 module _ (list : List ℕ) (b : Board) where
-  pub left-refused : Accepted 0 (fields list) b → (place : ℕ) → openOf list ≡ At place → verdictOf list b ≡ bad 20 place
+  pub left-refused : Passes 0 (fields list) b → (place : ℕ) → openOf list ≡ At place → verdictOf list b ≡ bad 20 place
   left-refused a place e = verdict-left list b (a .given) (a .none) ∙ ap leftBehind e ∙ left-at place
 
-  pub refused-left : verdictOf list b .number ≡ 20 → Accepted 0 (fields list) b × (openOf list ≡ At (verdictOf list b .place))
+  pub refused-left : verdictOf list b .number ≡ 20 → Passes 0 (fields list) b × (openOf list ≡ At (verdictOf list b .place))
   refused-left h = go (eqb (givenOf b) 0) refl (eqb (verdict (rowsOf b) (b .state .loaded) 0 (fields list) .number) 0) refl
     where
       go : (t : Bool) → eqb (givenOf b) 0 ≡ t → (u : Bool) → eqb (verdict (rowsOf b) (b .state .loaded) 0 (fields list) .number) 0 ≡ u
-          → Accepted 0 (fields list) b × (openOf list ≡ At (verdictOf list b .place))
+          → Passes 0 (fields list) b × (openOf list ≡ At (verdictOf list b .place))
       go false e u f =
           let v = ap (λ (w : Bad). w .number) (verdict-given list b (eqb-false _ _ e)) in
           absurd (omega (arith, given-most (b .state) (length (b .memory)) (length (b .serial)), v, h))

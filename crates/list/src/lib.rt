@@ -94,7 +94,7 @@ pub fn check(list: &[u8], rows: usize, loaded: bool) -> Bad
         // Writes and colour loads, of which fills are made, leave both as they are.
         if 3 < tag {
             made = made | (tag == 6);
-            left = opens(left, tag, at as u64);
+            left = opens(tag, at as u64, left);
         }
         rest = &rest[size..];
     };
