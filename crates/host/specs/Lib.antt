@@ -8,5 +8,7 @@ pub mod Calls
 pub mod StateLaws
 -- a refusal hands the state back; a call on a state handed to C is the call below
 pub mod CallLaws
--- a fill after a list
-pub mod AfterList
+-- calls one after the other
+pub mod Session
+-- what they leave of persistence, and a fill after them
+pub mod AfterCalls

@@ -15,7 +15,7 @@ use Rattle.vram.specs.State.{ruled}
 use Rattle.numbers.specs.Between.{both}
 use Rattle.vram.specs.Serial.{clocks}
 use Rattle.vram.specs.Calls.{answered, clocksRefusal, clocksCall}
-use Rattle.vram.specs.CallLaws.{clocks-number, clocks-moves}
+use Rattle.vram.specs.CallLaws.{leaves-persistent, clocks-number, clocks-moves}
 use Rattle.palette.specs.declared.Palette.{Palette}
 use Rattle.palette.specs.State.{ruled as paletteRuled}
 use Rattle.panel.specs.Panel.{panelOf, runBytes}
@@ -76,6 +76,12 @@ pub run-number : (parts : ℕ → ℕ) (s : Vram) (r : List ℕ) (p : Palette) (
     → runCallBy parts s r p t k blank out .answer .number ≡ runRefusal s p (length r) (length t) k (length out)
 unfolding runCallBy
 run-number parts s r p t k blank out = refl
+
+-- a run leaves persistence as it was, refused or not
+pub run-persistent : (parts : ℕ → ℕ) (s : Vram) (r : List ℕ) (p : Palette) (t : List ℕ) (k blank : ℕ) (out : List ℕ)
+    → runCallBy parts s r p t k blank out .answer .state .persistent ≡ s .persistent
+unfolding runCallBy
+run-persistent parts s r p t k blank out = leaves-persistent (runRefusal s p (length r) (length t) k (length out)) k s
 
 -- what an accepted run answers and leaves
 pub run-made : (parts : ℕ → ℕ) (s : Vram) (r : List ℕ) (p : Palette) (t : List ℕ) (k blank : ℕ) (out : List ℕ)

@@ -1,6 +1,6 @@
 -- Laws of the calls that move the serial port: a clock, and a run of clocks. Assumes nothing.
-use mathlib.Core.Path.{_≡_, refl, ap}
-use mathlib.Core.Bool.{Bool, true, false, _||_}
+use mathlib.Core.Path.{_≡_, refl, ap, _∙_}
+use mathlib.Core.Bool.{Bool, true, false, _||_, cond}
 use mathlib.Core.List.{List}
 use mathlib.Core.Logic.{_≢_}
 use Prim.Native.Nat.{ℕ, _+_, _≤_}
@@ -8,11 +8,12 @@ use native.Mathlib.Omega.{arith}
 use lib.Dec.{eqb, leb}
 use lib.ListN.{length, getD}
 use borrow.Author.Tests.{leb-true, le-leb, eq-eqb, eqb-true}
+use Rattle.numbers.specs.Refuse.{leaves}
 use Rattle.numbers.specs.RefuseLaws.{refuse-zero, leaves-made, leaves-before}
 use Rattle.vram.specs.declared.Vram.{Vram}
 use Rattle.vram.specs.State.{ruled}
 use Rattle.vram.specs.Serial.{through, clock, clocks}
-use Rattle.vram.specs.SerialLaws.{clocks-keep}
+use Rattle.vram.specs.SerialLaws.{clock-is, clocks-keep}
 use Rattle.vram.specs.RuleLaws.{Places, clocks-ruled}
 use Rattle.vram.specs.Calls.{clockRefusal, clockCall, clocksRefusal, clocksCall}
 
@@ -22,6 +23,20 @@ unfolding clockCall
 clock-refuses s r h =
     let n = clockRefusal s (length r) in
     rw (leaves-before n s (clock s) h, leaves-before n 0 (getD r (s .pointer) 0) h)
+
+-- clocks leave persistence as it was, refused or not
+pub leaves-persistent : (n k : ℕ) (s : Vram) → leaves n s (clocks k s) .persistent ≡ s .persistent
+leaves-persistent n k s = go (eqb n 0)
+  where
+    go : (t : Bool) → cond t (clocks k s) s .persistent ≡ s .persistent
+    go true = ap (λ (x : Vram). x .persistent) (clocks-keep k s)
+    go false = refl
+
+pub clock-persistent : (s : Vram) (r : List ℕ) → clockCall s r .state .persistent ≡ s .persistent
+unfolding clockCall
+clock-persistent s r =
+    let n = clockRefusal s (length r) in
+    ap (λ (x : Vram). leaves n s x .persistent) (clock-is s) ∙ leaves-persistent n 1 s
 
 -- the number that `clocks` gives back
 pub clocks-number : (s : Vram) (k : ℕ) → clocksCall s k .number ≡ clocksRefusal s k
