@@ -78,7 +78,7 @@ static size_t put_field(uint8_t *at, uint32_t rows)
 /* A list for both: how many bytes of it are lent. */
 static size_t some_list(uint32_t rows)
 {
-    size_t bytes = 0, most = chance(50) ? MOST_LIST - 13 : 13 * (1 + below(12)), cut = 0;
+    size_t bytes = 0, most = chance(50) ? MOST_LIST - 16 : 13 * (1 + below(12)), cut = 0;
     if (chance(30))
         return 0;
     while (bytes < most)

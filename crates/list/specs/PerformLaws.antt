@@ -21,7 +21,7 @@ pub record Passes (at : ℕ) (fs : List Field) (b : Board) : Type 0 where
   pub given : givenOf b ≡ 0
   pub none : verdict (rowsOf b) (b .state .loaded) at fs .number ≡ 0
 
--- the first acts, and the others are accepted on the board that it leaves
+-- the first acts, and the others pass on the board that it leaves
 module _ (at : ℕ) (c : Cycle) (n : ℕ) (fs : List Field) (b : Board) (a : Passes at (Reads c n ∷ fs) b) where
   pub first-acts : number c b ≡ 0
   unfolding numberOf
@@ -37,7 +37,7 @@ module _ (at : ℕ) (c : Cycle) (n : ℕ) (fs : List Field) (b : Board) (a : Pas
             ∙ accepted-tail (rowsOf b) (b .state .loaded) at (Reads c n) fs (a .none);
       }
 
--- a field that cannot be read is accepted nowhere
+-- a field that cannot be read passes nowhere
 pub unreadable-refused : (at : ℕ) (fs : List Field) (b : Board) → Passes at (Unreadable ∷ fs) b → ⊥
 unfolding numberOf
 unreadable-refused at fs b a = omega (arith, accepted-head (rowsOf b) (b .state .loaded) at Unreadable fs (a .none))
