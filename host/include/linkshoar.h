@@ -121,7 +121,7 @@ enum {
 /* The video RAM's registers. */
 typedef struct {
     uint16_t colour, mask; /* colour: what a block write paints; mask: in force for masked writes while it is persistent */
-    uint8_t persistent;    /* 1 from a mask load to a reset refresh; since 4.7.0 a list that loads the mask resets it, and no call makes 1 of 0 */
+    uint8_t persistent;    /* 1 from a mask load to a reset refresh; since 4.7.0 a list that loads the mask resets it: no call makes 1 of 0 */
     uint8_t loaded;        /* 1 once a full transfer has been made */
     uint8_t pointer;       /* the place in the serial register that the next clock reads */
     uint8_t waiting, tap;  /* waiting: 1 where a split transfer's tap waits for the end of the pointer's partition; else both are 0 */
