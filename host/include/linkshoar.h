@@ -50,7 +50,7 @@ extern "C" {
  * program that fills both bytes with FFFF to show entry 255 fills them with 00FF.
  * Since 4.3.0 the two palette reads take the table, and after a read of blue the colour registers take the next entry and the address goes
  * up by one: a program that then reads the same entry again, writes colours or reads the address sets the address first. */
-#define LINKSHOAR_VERSION "4.7.0"
+#define LINKSHOAR_VERSION "4.7.1"
 
 /* The numbers given back. Where several apply the lowest is given; in a list the first bad field wins, then its lowest number, and 20 is
  * given only where no field is refused. */

@@ -1,16 +1,17 @@
--- Laws of column masks: the code's product, and the column mask of a block in its row. Assumes nothing.
-use Prim.Native.Nat.{ℕ, zero, suc, _+_, _*_, _%_, _<_}
+-- Laws of column masks: what the code's shifts give, and the column mask of a block in its row. Assumes nothing.
+use Prim.Native.Nat.{ℕ, zero, suc, _+_, _*_, _/_, _%_, _^_, _<_}
 use mathlib.Core.Path.{_≡_, refl, sym, ap, _∙_}
 use mathlib.Core.Bool.{Bool, true, false, _&&_}
 use native.Mathlib.Omega.{arith}
 use lib.Dec.{eqb}
+use lib.Bits.{bitOr}
 use borrow.Author.Tests.{eqb-true, eqb-false}
 use Rattle.words.specs.Bit.{bit, digit, ofBits}
 use Rattle.words.specs.BitLaws.{bit-ofBits, ofBits-cong}
 use Rattle.numbers.specs.Between.{between, both}
 use Rattle.planner.specs.Bytes.{columnsIn}
 
--- ---- four bits in all four quads are a product: one test over the sixteen numbers
+-- ---- four bits in all four quads, by shifts: one test over the sixteen numbers
 
 abbrev allBelow : ℕ → (ℕ → Bool) → Bool
 allBelow zero p = true
@@ -24,12 +25,22 @@ below (suc n) p e x h = go (eqb x n) refl (below n p (both (p n) (allBelow n p) 
     go true q f = ap p (eqb-true x n q) ∙ both (p n) (allBelow n p) e .0
     go false q f = let z = eqb-false x n q in f (omega arith)
 
-product-test : allBelow 16 (λ n. eqb (4369 * n) (ofBits 16 (λ b. bit n (b % 4)))) ≡ true
-unfolding bit ofBits
-product-test = refl
+-- in the top quad, in the upper two, in all four
+abbrev top : ℕ → ℕ
+top n = n * 2 ^ 12 % 2 ^ 16
 
-pub quads-product : (columns : ℕ) → columns < 16 → 4369 * columns ≡ ofBits 16 (λ b. bit columns (b % 4))
-quads-product columns h = eqb-true _ _ (below 16 (λ n. eqb (4369 * n) (ofBits 16 (λ b. bit n (b % 4)))) product-test columns h)
+abbrev upper : ℕ → ℕ
+upper n = bitOr (top n) (top n / 2 ^ 4)
+
+abbrev pub shifted : ℕ → ℕ
+shifted n = bitOr (upper n) (upper n / 2 ^ 8)
+
+shifts-test : allBelow 16 (λ n. eqb (shifted n) (ofBits 16 (λ b. bit n (b % 4)))) ≡ true
+unfolding bit ofBits
+shifts-test = refl
+
+pub quads-shifts : (columns : ℕ) → columns < 16 → shifted columns ≡ ofBits 16 (λ b. bit columns (b % 4))
+quads-shifts columns h = eqb-true _ _ (below 16 (λ n. eqb (shifted n) (ofBits 16 (λ b. bit n (b % 4)))) shifts-test columns h)
 
 -- ---- the four bits of a block
 
