@@ -8,6 +8,7 @@
 #define AS_JOIN_(as, name) as##_##name
 #define AS_JOIN(as, name) AS_JOIN_(as, name)
 #define linkshoar_fill AS_JOIN(AS, fill)
+#define linkshoar_page AS_JOIN(AS, page)
 #define linkshoar_list_run AS_JOIN(AS, list_run)
 #define linkshoar_serial_clock AS_JOIN(AS, serial_clock)
 #define linkshoar_panel_run AS_JOIN(AS, panel_run)
@@ -23,7 +24,8 @@
  * write is accepted with a mask, 3 a waiting tap is not used up, 4 the pixel mask is ignored, 5 the palette's phase is kept across an
  * address write, 6 a read of blue takes no entry, 7 a fill goes by blocks where words are no more cycles, 8 a high byte of 255 is a
  * mark, 9 a part of eight bits has no sixteenth, 10 a reset refresh keeps the partition's length, 11 a waiting tap is taken at the end of
- * a half only, 12 a list that leaves its mask behind is accepted, 13 it is refused at its first mask load. */
+ * a half only, 12 a list that leaves its mask behind is accepted, 13 it is refused at its first mask load, 14 a page is written fill by fill
+ * until the room ends, 15 a rectangle's mask and colour are exchanged. */
 #ifndef FAULT
 #define FAULT 0
 #endif

@@ -17,6 +17,8 @@ static const work *const works[WHICH] = {linkshoar_works, plain_o2_works, plain_
 
 uint16_t memory[WORDS], serial[256];
 uint8_t masked_blocks[13 * FIELDS], plain_blocks[13 * FIELDS], masked_words[13 * FIELDS], plain_words[13 * FIELDS], colours[6 * FIELDS];
+rectangle rectangles[RECTANGLES];
+uint8_t page[RECTANGLES * LINKSHOAR_RECTANGLE_BYTES];
 uint8_t screen[LINKSHOAR_LIST_BYTES], plan[LINKSHOAR_LIST_BYTES], table[768];
 _Alignas(64) uint8_t out[1536]; /* aligned: how the C library clears depends on where */
 volatile uint32_t sink;
@@ -32,8 +34,25 @@ static void make_writes(uint8_t *at, uint8_t tag, uint8_t masking)
     }
 }
 
+static void make_page(void)
+{
+    static const uint16_t height[5] = {22, 14, 14, 22, 1}, column[5] = {24, 64, 300, 292, 24}, width[5] = {22, 90, 90, 110, 464};
+    static const uint16_t mask[5] = {0xFF00, 0x00FF, 0x00FF, 0xFF00, 0x00FF};
+    for (uint16_t i = 0; i < RECTANGLES; i++) {
+        uint16_t row = (uint16_t)(60 * (i / 5)), k = i % 5, end_row = (uint16_t)(row + height[k]), end_column = (uint16_t)(column[k] + width[k]);
+        rectangle q = {row, end_row, column[k], end_column, mask[k], (uint16_t)(77 * i)};
+        rectangles[i] = q;
+        linkshoar_put_rectangle(page + LINKSHOAR_RECTANGLE_BYTES * i, row, end_row, column[k], end_column, mask[k], q.colour);
+    }
+    if (linkshoar_page(512, 0, page, sizeof page, plan, sizeof plan).cycles != PAGE_CYCLES) {
+        fprintf(stderr, "the page has not the cycles that it is divided by\n");
+        exit(1);
+    }
+}
+
 static void make_all(void)
 {
+    make_page();
     make_writes(masked_blocks, 2, 1);
     make_writes(plain_blocks, 2, 0);
     make_writes(masked_words, 1, 1);

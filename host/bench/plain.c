@@ -174,6 +174,60 @@ linkshoar_filled linkshoar_fill(uint32_t rows, uint32_t first_row, uint32_t end_
     return r;
 }
 
+static uint32_t rectangle_number(const uint8_t *b, size_t left, uint32_t rows)
+{
+    if (left < 15 || b[0] != 8 || pair(b + 1) != 12)
+        return 4;
+    return pair(b + 3) > pair(b + 5) || pair(b + 7) > pair(b + 9) || pair(b + 9) > 512 || pair(b + 5) > rows ? 12 : 0;
+}
+
+static uint32_t rectangle_bytes(const uint8_t *b)
+{
+    uint32_t height = pair(b + 5) - pair(b + 3), width = pair(b + 9) - pair(b + 7), across = (pair(b + 9) + 3) / 4 - pair(b + 7) / 4;
+    if (!pair(b + (FAULT == 15 ? 13 : 11)) || !height || !width)
+        return 0;
+    uint32_t words = height * width, blocks = height * across;
+    return words <= blocks + (FAULT != 7) ? 13 * words : 6 + 13 * blocks;
+}
+
+linkshoar_paged linkshoar_page(uint32_t rows, uint32_t persistent, const uint8_t *rectangles, size_t length, uint8_t *list, size_t room)
+{
+    linkshoar_paged r = {0, 0, 0, 0};
+    uint64_t bytes = 0;
+    if (rows - 1 > 511) {
+        r.number = 2;
+        return r;
+    }
+    for (size_t at = 0; at < length; at += 15) {
+        r.number = rectangle_number(rectangles + at, length - at, rows);
+        if (r.number) {
+            r.place = at;
+            return r;
+        }
+        bytes += rectangle_bytes(rectangles + at); /* no list of rectangles that a machine holds comes near 2^64 */
+    }
+    if (persistent || (bytes > room && FAULT != 14)) {
+        r.number = persistent ? 13 : 15;
+        return r;
+    }
+    bytes = 0;
+    for (size_t at = 0; at < length; at += 15) {
+        const uint8_t *b = rectangles + at + 3;
+        uint16_t mask = (uint16_t)pair(b + 8), colour = (uint16_t)pair(b + 10);
+        linkshoar_filled f = linkshoar_fill(rows, pair(b), pair(b + 2), pair(b + 4), pair(b + 6), FAULT == 15 ? colour : mask,
+                                            FAULT == 15 ? mask : colour, 0, list + bytes, room - bytes);
+        if (f.number) {
+            r.number = f.number;
+            r.bytes = r.cycles = 0;
+            return r;
+        }
+        bytes += f.bytes;
+        r.cycles += f.cycles;
+    }
+    r.bytes = bytes;
+    return r;
+}
+
 static linkshoar_vram clocked(linkshoar_vram s)
 {
     unsigned last = (FAULT == 11 ? 128u : s.stop) - 1;

@@ -226,29 +226,35 @@ static inline uint8_t *put(uint8_t *at, uint64_t first, uint64_t last)
     return at + 13;
 }
 
-linkshoar_filled linkshoar_fill(uint32_t rows, uint32_t first_row, uint32_t end_row, uint32_t first_column, uint32_t end_column,
-                                uint16_t mask, uint16_t colour, uint32_t persistent, uint8_t *list, size_t length)
+#define INLINE static inline __attribute__((always_inline))
+
+/* What a rectangle that is not refused comes to. */
+typedef struct {
+    uint32_t bytes, cycles;
+    int by_words;
+} shape;
+
+INLINE shape shape_of(uint32_t first_row, uint32_t end_row, uint32_t first_column, uint32_t end_column, uint16_t mask)
 {
-    linkshoar_filled r = {0, 0, 0};
-    if (rows - 1 > 511)
-        r.number = 2;
-    else if (first_row > end_row || first_column > end_column || end_column > 512 || end_row > rows)
-        r.number = 12;
-    else if (persistent)
-        r.number = 13;
+    shape s = {0, 0, 0};
     uint32_t height = end_row - first_row, width = end_column - first_column, first = first_column & ~3u, last = (end_column - 1) & ~3u;
-    if (r.number || !mask || !height || !width)
-        return r;
+    if (!mask || !height || !width)
+        return s;
     uint32_t words = height * width, blocks = height * ((last - first) / 4 + 1);
-    int by_words = words <= blocks + (FAULT != 7);
-    uint32_t bytes = by_words ? 13 * words : 6 + 13 * blocks;
-    if (length < bytes) {
-        r.number = 15;
-        return r;
-    }
+    s.by_words = words <= blocks + (FAULT != 7);
+    s.bytes = s.by_words ? 13 * words : 6 + 13 * blocks;
+    s.cycles = s.by_words ? words : 1 + blocks;
+    return s;
+}
+
+/* The list of a shape that is not empty. */
+INLINE void write_list(shape s, uint32_t first_row, uint32_t end_row, uint32_t first_column, uint32_t end_column, uint16_t mask,
+                       uint16_t colour, uint8_t *list)
+{
+    uint32_t height = end_row - first_row, first = first_column & ~3u, last = (end_column - 1) & ~3u;
     uint64_t tail = 1u << 24 | (uint32_t)mask << 8 | 3; /* masking, mask, strobes: the end of the last eight bytes */
-    uint64_t row = (uint64_t)HEADER(by_words ? 1 : 2, 10) << 40 | (uint64_t)first_row << 24, past = row + ((uint64_t)height << 24);
-    if (by_words) {
+    uint64_t row = (uint64_t)HEADER(s.by_words ? 1 : 2, 10) << 40 | (uint64_t)first_row << 24, past = row + ((uint64_t)height << 24);
+    if (s.by_words) {
         uint64_t end = end_column << 8 | colour >> 8, value = tail | (uint64_t)colour << 32;
         for (; row != past; row += 1u << 24)
             for (uint64_t column = first_column << 8 | colour >> 8; column != end; column += 1u << 8)
@@ -270,8 +276,93 @@ linkshoar_filled linkshoar_fill(uint32_t rows, uint32_t first_row, uint32_t end_
             list = put(list, row | last << 8 | right >> 8, tail | (uint64_t)right << 32);
         }
     }
+}
+
+linkshoar_filled linkshoar_fill(uint32_t rows, uint32_t first_row, uint32_t end_row, uint32_t first_column, uint32_t end_column,
+                                uint16_t mask, uint16_t colour, uint32_t persistent, uint8_t *list, size_t length)
+{
+    linkshoar_filled r = {0, 0, 0};
+    if (rows - 1 > 511)
+        r.number = 2;
+    else if (first_row > end_row || first_column > end_column || end_column > 512 || end_row > rows)
+        r.number = 12;
+    else if (persistent)
+        r.number = 13;
+    if (r.number)
+        return r;
+    shape s = shape_of(first_row, end_row, first_column, end_column, mask);
+    if (!s.cycles)
+        return r;
+    if (length < s.bytes) {
+        r.number = 15;
+        return r;
+    }
+    write_list(s, first_row, end_row, first_column, end_column, mask, colour, list);
+    r.bytes = s.bytes;
+    r.cycles = s.cycles;
+    return r;
+}
+
+/* ---- pages */
+
+/* A rectangle by whole loads: the rows and the columns as one number, the mask and the colour as another. */
+typedef struct {
+    uint32_t first_row, end_row, first_column, end_column;
+    uint16_t mask, colour;
+} rectangle;
+
+INLINE rectangle rectangle_of(const uint8_t *b)
+{
+    uint64_t sides = eight(b + 3);
+    uint32_t paint = four(b + 11);
+    uint16_t mask = (uint16_t)(paint >> 16), colour = (uint16_t)paint;
+    rectangle q = {(uint32_t)(sides >> 48), (uint16_t)(sides >> 32), (uint16_t)(sides >> 16), (uint16_t)sides, FAULT == 15 ? colour : mask,
+                   FAULT == 15 ? mask : colour};
+    return q;
+}
+
+linkshoar_paged linkshoar_page(uint32_t rows, uint32_t persistent, const uint8_t *rectangles, size_t length, uint8_t *list, size_t room)
+{
+    linkshoar_paged r = {0, 0, 0, 0};
+    uint64_t bytes = 0;
+    if (rows - 1 > 511) {
+        r.number = 2;
+        return r;
+    }
+    for (size_t at = 0; at < length; at += 15) {
+        const uint8_t *b = rectangles + at;
+        if (length - at < 15 || four(b) >> 8 != HEADER(8, 12))
+            r.number = 4;
+        else {
+            rectangle q = rectangle_of(b);
+            if (q.first_row > q.end_row || q.first_column > q.end_column || q.end_column > 512 || q.end_row > rows)
+                r.number = 12;
+            bytes += shape_of(q.first_row, q.end_row, q.first_column, q.end_column, q.mask).bytes;
+        }
+        if (r.number) {
+            r.place = at;
+            return r;
+        }
+    }
+    if (persistent || (bytes > room && FAULT != 14)) {
+        r.number = persistent ? 13 : 15;
+        return r;
+    }
+    bytes = 0;
+    for (size_t at = 0; at < length; at += 15) {
+        rectangle q = rectangle_of(rectangles + at);
+        shape s = shape_of(q.first_row, q.end_row, q.first_column, q.end_column, q.mask);
+        if (FAULT == 14 && bytes + s.bytes > room) {
+            r.number = 15;
+            r.cycles = 0;
+            return r;
+        }
+        if (s.cycles)
+            write_list(s, q.first_row, q.end_row, q.first_column, q.end_column, q.mask, q.colour, list + bytes);
+        bytes += s.bytes;
+        r.cycles += s.cycles;
+    }
     r.bytes = bytes;
-    r.cycles = by_words ? words : 1 + blocks;
     return r;
 }
 

@@ -63,6 +63,26 @@ static void plan_words(void)
     plan_columns(3, 5);
 }
 
+/* A results page by one call, and its rectangles by a call for each with the buffer moved along. */
+static void plan_page(void)
+{
+    linkshoar_paged r = linkshoar_page(512, 0, page, sizeof page, plan, sizeof plan);
+    sink += r.number + (uint32_t)r.bytes;
+}
+
+static void plan_singly(void)
+{
+    size_t at = 0;
+    for (int i = 0; i < RECTANGLES; i++) {
+        rectangle q = rectangles[i];
+        linkshoar_filled r = linkshoar_fill(512, q.first_row, q.end_row, q.first_column, q.end_column, q.mask, q.colour, 0, plan + at, sizeof plan - at);
+        if (r.number)
+            break;
+        at += r.bytes;
+    }
+    sink += (uint32_t)at;
+}
+
 /* ---- clocks */
 
 static void run_panel(linkshoar_vram state, uint32_t blank)
@@ -137,6 +157,8 @@ const work linkshoar_works[WORKS] = {
     {"full-screen fill's list, a field", run_screen, 1 + 512 * 128},
     {"planned block", plan_blocks, 1 + 512 * 128},
     {"planned word", plan_words, 1024},
+    {"planned page, a cycle", plan_page, PAGE_CYCLES},
+    {"its rectangles one by one, a cycle", plan_singly, PAGE_CYCLES},
     {"panel pixel shown", show_panel, 512},
     {"panel pixel shown, six bits", show_panel_six, 512},
     {"panel pixel shown, partitions of 16", show_panel_16, 512},

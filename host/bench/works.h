@@ -10,7 +10,12 @@ typedef struct {
     unsigned units; /* that one run does */
 } work;
 
-enum { WORKS = 15, WORDS = 262144, FIELDS = 4096 };
+/* A results page: eight lines of a mark, a label, a value and its cell, and a rule. */
+typedef struct {
+    uint16_t first_row, end_row, first_column, end_column, mask, colour;
+} rectangle;
+
+enum { WORKS = 17, WORDS = 262144, FIELDS = 4096, LINES = 8, RECTANGLES = 5 * LINES, PAGE_CYCLES = 12104 };
 
 extern const work linkshoar_works[WORKS];
 
@@ -18,6 +23,8 @@ extern const work linkshoar_works[WORKS];
 extern uint16_t memory[WORDS], serial[256];
 extern uint8_t masked_blocks[13 * FIELDS], plain_blocks[13 * FIELDS], masked_words[13 * FIELDS], plain_words[13 * FIELDS];
 extern uint8_t colours[6 * FIELDS];
+extern rectangle rectangles[RECTANGLES];
+extern uint8_t page[RECTANGLES * LINKSHOAR_RECTANGLE_BYTES];
 extern uint8_t screen[LINKSHOAR_LIST_BYTES], plan[LINKSHOAR_LIST_BYTES], table[768];
 extern _Alignas(64) uint8_t out[1536];
 extern volatile uint32_t sink;

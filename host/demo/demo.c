@@ -1,4 +1,4 @@
-/* A results page on a panel: fills planned, lists run, rows transferred, shown through the palette, and written as a picture.
+/* A results page on a panel: a page of fills planned, its list run, rows transferred, shown through the palette, and written as a picture.
  *   demo PICTURE.png
  * Each result stands in the low byte of the words, its mark in the high byte: amber preliminary, green final. The palette is saved, lost and
  * written back first. Two preliminary results are rechecked and stand in reverse video. In the end the rerun of one has come: its line is
@@ -15,10 +15,14 @@ enum { HIV = 64, HBS = 100, HCV = 136, SYPHILIS = 172, CMV = 208, LEGEND = 272 }
 enum { CELL = 292, VALUE = 300 };                                                 /* the columns where a value's cell and its letters begin */
 enum { DARK = 0, AMBER = 1, GREEN = 2, LABEL = 3, RESULT = 4, TITLE = 5, LINE = 6 }; /* palette entries */
 
+enum { MOST_RECTANGLES = 2000, MOST_LIST = 2 * LINKSHOAR_LIST_BYTES };
+
 static uint16_t memory[ROWS * COLUMNS], serial[LINKSHOAR_SERIAL_WORDS];
-static uint8_t table[LINKSHOAR_TABLE_BYTES], list[LINKSHOAR_LIST_BYTES], picture[ROWS][COLUMNS][3];
+static uint8_t table[LINKSHOAR_TABLE_BYTES], list[MOST_LIST], picture[ROWS][COLUMNS][3];
+static uint8_t rectangles[MOST_RECTANGLES * LINKSHOAR_RECTANGLE_BYTES];
+static size_t named; /* bytes of rectangles that are to be drawn */
 static linkshoar_vram state;
-static unsigned long fills, cycles, words_alone;
+static unsigned long fills, calls, cycles, words_alone;
 
 static void must(uint32_t number, const char *what)
 {
@@ -28,16 +32,28 @@ static void must(uint32_t number, const char *what)
     }
 }
 
-/* ---- drawing: every rectangle is a planned list, run at once */
+/* ---- drawing: rectangles are named, and drawn together as one page: its list is planned by one call and run by another */
 
 static void fill(uint32_t row, uint32_t column, uint32_t height, uint32_t width, uint16_t mask, uint16_t colour)
 {
-    linkshoar_filled plan = linkshoar_fill(ROWS, row, row + height, column, column + width, mask, colour, state.persistent, list, sizeof list);
-    must(plan.number, "fill");
+    if (named == sizeof rectangles) {
+        fprintf(stderr, "too many rectangles\n");
+        exit(1);
+    }
+    named += linkshoar_put_rectangle(rectangles + named, (uint16_t)row, (uint16_t)(row + height), (uint16_t)column, (uint16_t)(column + width),
+                                     mask, colour);
+    words_alone += (unsigned long)height * width;
+}
+
+static void draw(void)
+{
+    linkshoar_paged plan = linkshoar_page(ROWS, state.persistent, rectangles, named, list, sizeof list);
+    must(plan.number, "page");
     linkshoar_ran ran = linkshoar_list_run(state, memory, ROWS * COLUMNS, serial, LINKSHOAR_SERIAL_WORDS, list, plan.bytes);
     must(ran.number, "list");
     state = ran.state;
-    fills++, cycles += plan.cycles, words_alone += (unsigned long)height * width;
+    fills += named / LINKSHOAR_RECTANGLE_BYTES, calls += 2, cycles += plan.cycles;
+    named = 0;
 }
 
 /* A result's colour goes to the low byte. The high byte takes a mark, or says how the result is shown. */
@@ -84,6 +100,7 @@ static void text(uint32_t row, uint32_t column, const char *letters, uint8_t ent
                     }
 }
 
+/* The mark is named first: at no point of the running is the result there without it. */
 static void result(uint32_t row, const char *label, const char *value, uint8_t status)
 {
     mark(row, 24, status);
@@ -109,6 +126,15 @@ static void page(void)
     text(LEGEND + 4, 260, "FINAL", LABEL);
     text(LEGEND + 4, 392, "RECHECK", RESULT);
     reverse(LEGEND, 378);
+    draw();
+}
+
+/* Two preliminary results are rechecked. */
+static void recheck(void)
+{
+    reverse(HCV, CELL);
+    reverse(CMV, CELL);
+    draw();
 }
 
 /* The rerun of a preliminary result has come: its whole line, the mark's words too, is cleared and painted anew through mask 00FF, which
@@ -119,6 +145,7 @@ static void rerun(void)
     text(HCV + 4, 64, "HCV AB", LABEL);
     text(HCV + 4, VALUE, "POS 3.68", RESULT);
     upright(HCV, CELL);
+    draw();
 }
 
 /* ---- the palette, by its accesses */
@@ -303,12 +330,12 @@ int main(int argc, char **argv)
     colours_in_reverse(&palette, DARK, RESULT);
     survive_power_off(&palette);
     page();
-    reverse(HCV, CELL);
-    reverse(CMV, CELL);
+    recheck();
     rerun();
     show(palette);
     write_picture(argc > 1 ? argv[1] : "page.png");
     printf("%lu fills, %lu cycles; word by word %lu\n", fills, cycles, words_alone);
+    printf("%lu calls drew them, two for each page; fill by fill it would be %lu, so %lu fewer\n", calls, 2 * fills, 2 * fills - calls);
     const char *wrong = what_is_wrong();
     if (wrong)
         printf("%s\n", wrong);

@@ -18,6 +18,7 @@
  *   table    the palette's 256 entries, 768 bytes: entry e has red at 3 * e, green at 3 * e + 1, blue at 3 * e + 2. The low six bits of
  *            a byte are read, 0 to 63. The caller may write it in place, or by linkshoar_palette_write as the chip is written.
  *   list     cycles as bytes: see "Lists" below.
+ *   rectangles   a page's rectangles as bytes: see "Pages" below.
  */
 #ifndef LINKSHOAR_H
 #define LINKSHOAR_H
@@ -29,7 +30,9 @@
 extern "C" {
 #endif
 
-/* Since 4.7.0 a list must not leave its mask behind: one with a mask load and no reset refresh after it is refused whole with number 20, new,
+/* Since 4.8.0 there is linkshoar_page: a page of fills by one call. No program must change; one that fills rectangle after rectangle may name
+ * them in one list (linkshoar_put_rectangle) and call once.
+ * Since 4.7.0 a list must not leave its mask behind: one with a mask load and no reset refresh after it is refused whole with number 20, new,
  * at the offset of its last mask load. A program whose lists load the mask must change: each such list ends with linkshoar_put_reset_refresh,
  * or has it somewhere after its last mask load, and what is to be drawn through the mask stands before it in the same list. One list can no
  * longer load a mask for the next to draw through, or to reset; the second of such a pair is accepted as before and would draw without that
@@ -50,10 +53,10 @@ extern "C" {
  * program that fills both bytes with FFFF to show entry 255 fills them with 00FF.
  * Since 4.3.0 the two palette reads take the table, and after a read of blue the colour registers take the next entry and the address goes
  * up by one: a program that then reads the same entry again, writes colours or reads the address sets the address first. */
-#define LINKSHOAR_VERSION "4.7.1"
+#define LINKSHOAR_VERSION "4.8.0"
 
 /* The numbers given back. Where several apply the lowest is given; in a list the first bad field wins, then its lowest number, and 20 is
- * given only where no field is refused. */
+ * given only where no field is refused; in a page the first bad rectangle wins over 13 and 15. */
 enum {
     LINKSHOAR_DONE = 0,
     LINKSHOAR_STATE_EXCLUDED = 1,
@@ -85,6 +88,7 @@ enum {
     LINKSHOAR_TABLE_BYTES = 768,    /* the palette's table: red, green, blue of 256 entries */
     LINKSHOAR_LIST_BYTES = 851974,  /* the longest list that a fill writes */
     LINKSHOAR_FIELD_BYTES = 13,     /* the longest field of a list */
+    LINKSHOAR_RECTANGLE_BYTES = 15, /* a rectangle of a page */
     LINKSHOAR_ADDRESSES = 262144    /* the Am8150's addresses: 18 bits */
 };
 
@@ -142,6 +146,12 @@ typedef struct {
 typedef struct {
     uint32_t number, bytes, cycles; /* how many bytes the list has, and how many fields */
 } linkshoar_filled;
+
+typedef struct {
+    uint32_t number;
+    uint64_t place;         /* of 4 and 12: the offset of the rectangle that is refused, in bytes from the first; else 0 */
+    uint64_t bytes, cycles; /* of the joined list */
+} linkshoar_paged;
 
 typedef struct {
     linkshoar_vram state;
@@ -240,7 +250,7 @@ enum {
     LINKSHOAR_MASKING_MASKED = 1
 };
 
-/* What the eight functions below have in common. */
+/* What the functions below that write a field have in common. */
 static inline void linkshoar_put_pair(uint8_t *at, uint16_t number)
 {
     at[0] = (uint8_t)(number >> 8);
@@ -340,6 +350,26 @@ static inline size_t linkshoar_put_stop_points(uint8_t *at, uint8_t length)
     return linkshoar_put_head(at, LINKSHOAR_TAG_STOP_POINTS, 1);
 }
 
+/* ---- Pages
+ *
+ * A page is rectangles, one after the other, each a field as in a list: tag 8, length 12, and six numbers of two bytes: first row, end row, first
+ * column, end column (ends not included), mask, colour. They are painted in this order, so the last is on top, and each whole before the
+ * next is begun: name a result's mark before the result, and no point of the running shows the new result without its mark. */
+enum { LINKSHOAR_TAG_RECTANGLE = 8 };
+
+/* 15 bytes: a rectangle. It writes what it is given: linkshoar_page judges. An argument is as wide as its place, and C cuts a wider number. */
+static inline size_t linkshoar_put_rectangle(uint8_t *at, uint16_t first_row, uint16_t end_row, uint16_t first_column, uint16_t end_column,
+                                             uint16_t mask, uint16_t colour)
+{
+    linkshoar_put_pair(at + 3, first_row);
+    linkshoar_put_pair(at + 5, end_row);
+    linkshoar_put_pair(at + 7, first_column);
+    linkshoar_put_pair(at + 9, end_column);
+    linkshoar_put_pair(at + 11, mask);
+    linkshoar_put_pair(at + 13, colour);
+    return linkshoar_put_head(at, LINKSHOAR_TAG_RECTANGLE, 12);
+}
+
 /* ---- Calls */
 
 /* The states at power-on: zeros, a partition of 128 places, and a pixel mask of 255. */
@@ -352,6 +382,13 @@ linkshoar_palette linkshoar_palette_fresh(void);
  * the state's, which must be 0. list, length: the room for the list; LINKSHOAR_LIST_BYTES is always enough. Refused with 2, 12, 13, 15. */
 linkshoar_filled linkshoar_fill(uint32_t rows, uint32_t first_row, uint32_t end_row, uint32_t first_column, uint32_t end_column,
                                 uint16_t mask, uint16_t colour, uint32_t persistent, uint8_t *list, size_t length);
+
+/* Plans a page: writes the lists of its rectangles' fills, joined, for linkshoar_list_run: the same bytes as calling linkshoar_fill for each with
+ * the buffer moved along, and the sums of their bytes and cycles. Each rectangle's own part is shortest; the whole is not made shorter, so a
+ * colour may be loaded twice. No rectangle gives an empty list. rows, persistent: as for linkshoar_fill. rectangles, length: see "Pages". list,
+ * room: the room for the joined list, measured before a byte is written; LINKSHOAR_LIST_BYTES for each rectangle is always enough. The
+ * rectangles and the list do not overlap. Refused with 2; then 4 and 12 by the first bad rectangle, with its place; then 13; then 15. */
+linkshoar_paged linkshoar_page(uint32_t rows, uint32_t persistent, const uint8_t *rectangles, size_t length, uint8_t *list, size_t room);
 
 /* Checks a list whole, then runs it in order; length: the list's bytes. A list with a mask load or a reset refresh, where it is not refused,
  * leaves the mask not persistent; any other leaves persistence as it was. So from a fresh state on no fill that is given the state's own

@@ -195,6 +195,7 @@ void try_edges(void)
     list_edges();
     word_edges();
     fill_edges();
+    page_edges();
     panel_edges();
     every_word();
     every_part();

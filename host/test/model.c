@@ -622,3 +622,66 @@ linkshoar_filled model_fill(uint32_t rows, uint32_t first_row, uint32_t end_row,
     r.cycles = w.cycles;
     return r;
 }
+
+/* ---- pages */
+
+/* The number of the rectangle at the start of these bytes. */
+static uint32_t rectangle_number(const uint8_t *b, size_t left, uint32_t rows)
+{
+    if (left < 15 || (b[0] != 8 && (FAULT != 53 || b[0] != 1))) /* a field of tag 1 accepted */
+        return 4;
+    if (b[2] != 12 || (b[1] != 0 && FAULT != 55)) /* the length's high byte ignored */
+        return 4;
+    return pair(b + 3) > pair(b + 5) || pair(b + 5) > rows || pair(b + 7) > pair(b + 9) || pair(b + 9) > 512 ? 12 : 0;
+}
+
+static void plan_rectangle(writer *w, const uint8_t *b)
+{
+    unsigned mask = pair(b + (FAULT == 52 ? 13 : 11)), colour = pair(b + (FAULT == 52 ? 11 : 13)); /* mask and colour exchanged */
+    if (FAULT == 47) /* each list at the buffer's start */
+        w->bytes = 0;
+    if (FAULT == 48) /* the count of the last fill alone */
+        w->cycles = 0;
+    plan(w, pair(b + 3), pair(b + 5), pair(b + 7), pair(b + 9), mask, colour);
+}
+
+linkshoar_paged model_page(uint32_t rows, uint32_t persistent, const uint8_t *rectangles, size_t length, uint8_t *list, size_t room)
+{
+    linkshoar_paged r = {0, 0, 0, 0};
+    writer w = {list, 0, 0, 0};
+    if (rows < 1 || rows > 512)
+        r.number = 2;
+    else if (FAULT == 49 && persistent) /* 13 before 12 */
+        r.number = 13;
+    for (size_t at = 0; !r.number && at < length; at += 15) {
+        uint32_t number = rectangle_number(rectangles + at, length - at, rows);
+        if (FAULT == 51) /* the last bad field's place */
+            for (size_t later = at; number && later < length; later += 15)
+                r.place = rectangle_number(rectangles + later, length - later, rows) ? later : r.place;
+        else if (number)
+            r.place = at;
+        r.number = number;
+    }
+    if (!r.number && persistent && (FAULT != 54 || length)) /* with no rectangle at all accepted */
+        r.number = 13;
+    if (r.number)
+        return r;
+    for (size_t at = 0; at < length; at += 15)
+        plan_rectangle(&w, rectangles + at);
+    if (w.bytes > room && FAULT != 50) {
+        r.number = 15;
+        return r;
+    }
+    w.room = room;
+    w.bytes = 0;
+    w.cycles = 0;
+    for (size_t at = 0; at < length; at += 15)
+        plan_rectangle(&w, rectangles + at);
+    if (FAULT == 50 && w.bytes > room) { /* 15, but what there was room for is written */
+        r.number = 15;
+        return r;
+    }
+    r.bytes = w.bytes;
+    r.cycles = w.cycles;
+    return r;
+}

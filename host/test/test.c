@@ -171,8 +171,8 @@ static void try_fresh(void)
         differ("linkshoar_palette_fresh");
 }
 
-/* Eleven, and one time in forty one of the last two, which are some forty calls each. */
-static void (*const tries[])(void) = {try_fill, try_read, try_clock, try_panel, try_palette, try_palette, try_lent,
+/* Twelve, and one time in forty one of the last two, which are some forty calls each. */
+static void (*const tries[])(void) = {try_fill, try_page, try_read, try_clock, try_panel, try_palette, try_palette, try_lent,
                                       try_list, try_list, try_list, try_list, try_controller, try_frame};
 
 int main(int argc, char **argv)
@@ -187,7 +187,7 @@ int main(int argc, char **argv)
     try_edges();
     try_saved();
     while (calls < most || (seconds > 0 && difftime(time(NULL), began) < seconds)) {
-        tries[chance(40) ? 11 + below(2) : below(11)]();
+        tries[chance(40) ? 12 + below(2) : below(12)]();
         if (chance(2000))
             same_all();
     }

@@ -3,6 +3,8 @@
 #define TRIES_H
 
 void try_fill(void);       /* fill.c: the planner's call */
+void try_page(void);       /* page.c: a page of fills, also against its fills called one by one */
+void page_edges(void);     /* page.c: pages and rooms of every length about that of one and two rectangles, every pair of refusals */
 void try_edges(void);      /* edges.c: every slice of every call empty, one short and one long, a memory of 513 rows; every word shown, every
                               byte as each part at both widths; every partition length, and a run from every place */
 void try_fields(void);     /* fields.c: the header's functions that write a field, against the second implementation's reading of it */

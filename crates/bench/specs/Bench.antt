@@ -18,7 +18,8 @@ use Rattle.palette.specs.Access.{afterWrite, tableAfterWrite, byteRead, afterRe
 use Rattle.palette.specs.Calls.{accessRefusal, writeCall, readCall}
 use Rattle.palette.specs.Session.{session}
 use Rattle.list.specs.Tags.{word, known, lenOf, cycleOf}
-use Rattle.list.specs.Fields.{whole, fieldOf, sizeOf, parts}
+use Rattle.list.specs.Splits.{split}
+use Rattle.list.specs.Fields.{whole, fieldOf, sizeOf}
 use Rattle.list.specs.Encode.{encode, encodeAll, bodyOf}
 use Rattle.list.specs.Open.{opens, openBy, openAfter}
 use Rattle.list.specs.Meaning.{numberOf, madeBy, verdict, cycles, leftBehind, firstBad, judged, verdictOf}
@@ -27,7 +28,7 @@ use Rattle.planner.specs.Calls.{fillRefusal, fillCall}
 use Rattle.bench.specs.Cases.{starred, Every}
 
 pub starred-cases-hold : Every starred
-unfolding bit ofBits merged covers lets writeRefusal loadRefusal fullRefusal splitRefusal stopRefusal ruled put puts copied effect given refusal number stepBy runBy lengthOf clockIn cycleCall clockRefusal clockCall tagOf paletteRuled afterWrite tableAfterWrite byteRead afterRead accessRefusal writeCall readCall session word known lenOf cycleOf whole fieldOf sizeOf parts encode encodeAll bodyOf numberOf madeBy loads verdict cycles opens openBy openAfter leftBehind firstBad judged verdictOf flatten inside touched picked columnsOf plan fillRefusal fillCall
+unfolding bit ofBits merged covers lets writeRefusal loadRefusal fullRefusal splitRefusal stopRefusal ruled put puts copied effect given refusal number stepBy runBy lengthOf clockIn cycleCall clockRefusal clockCall tagOf paletteRuled afterWrite tableAfterWrite byteRead afterRead accessRefusal writeCall readCall session word known lenOf cycleOf whole fieldOf sizeOf split encode encodeAll bodyOf numberOf madeBy loads verdict cycles opens openBy openAfter leftBehind firstBad judged verdictOf flatten inside touched picked columnsOf plan fillRefusal fillCall
 starred-cases-hold = (
   refl,
   (

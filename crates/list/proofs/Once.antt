@@ -2,9 +2,17 @@
 use mathlib.Core.Path.{refl}
 use Rattle.numbers.specs.Determines.{Determines}
 use Rattle.numbers.specs.DeterminesLaws.{by-result, by-outcome}
+use Rattle.list.proofs.number_at as number-at
+use Rattle.list.proofs.sized as sized
 use Rattle.list.proofs.head_of as head-of
 use Rattle.list.proofs.check as check
 use Rattle.list.proofs.run as run
+
+pub number-at-once : Determines number-at.signature (λ M. number-at.clauses)
+number-at-once = by-result refl (λ κs a v w. refl)
+
+pub sized-once : Determines sized.signature (λ M. sized.clauses)
+sized-once = by-result refl (λ κs a v w. refl)
 
 pub head-once : Determines head-of.signature (λ M. head-of.clauses)
 head-once = by-result refl (λ κs a v w. refl)

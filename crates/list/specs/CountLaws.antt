@@ -6,6 +6,7 @@ use Prim.Native.Nat.{ℕ, zero, suc, _+_, _≤_}
 use native.Mathlib.Omega.{arith}
 use lib.ListN.{length, length-append}
 use Rattle.list.specs.Tags.{lenOf}
+use Rattle.list.specs.Splits.{split}
 use Rattle.list.specs.Fields.{Field, Reads, Unreadable, parts, fields}
 use Rattle.list.specs.FieldLaws.{whole-length, fields-append, readable-head, parts-tail}
 use Rattle.list.specs.Meaning.{cycles, readable, cyclesOf, countOf}
@@ -15,7 +16,7 @@ use Rattle.list.specs.Joined.{sizes}
 -- ---- bytes: the fields of a list that can be read are all of it
 
 sizes-parts : (k : ℕ) (a : List ℕ) → k ≤ length a → readable (parts k a) ≡ true → k + sizes (parts k a) ≡ length a
-unfolding parts sizes
+unfolding split sizes
 sizes-parts zero [] h e = refl
 sizes-parts (suc k) [] h e = absurd (omega arith)
 sizes-parts (suc k) (x ∷ a) h e = let i = sizes-parts k a (omega arith) e in omega arith

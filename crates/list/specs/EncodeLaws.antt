@@ -13,7 +13,8 @@ use Rattle.vram.specs.declared.Cycle.the-variants.{WordWrite, BlockWrite, LoadC
 use Rattle.vram.specs.Kinds.{tagOf}
 use Rattle.vram.specs.CaseLaws.{tag-word, tag-block, tag-colour, tag-mask, tag-reset, tag-full, tag-split, tag-stop}
 use Rattle.list.specs.Tags.{word, known, lenOf, cycleOf}
-use Rattle.list.specs.Fields.{Field, Reads, body, whole, fieldOf, parts, fields}
+use Rattle.list.specs.Splits.{split}
+use Rattle.list.specs.Fields.{Field, Reads, body, whole, fieldOf, fields}
 use Rattle.list.specs.FieldLaws.{field-whole, fields-whole}
 use Rattle.list.specs.Meaning.{cycles, cyclesOf, countOf}
 use Rattle.list.specs.Encode.{two, bodyOf, encode, encodeAll}
@@ -102,7 +103,7 @@ abbrev pub encoded : Cycle → Field
 encoded c = Reads c (lenOf (tagOf c))
 
 pub fields-encodeAll : (cs : List Cycle) → fields (encodeAll cs) ≡ map encoded cs
-unfolding encodeAll parts
+unfolding encodeAll split
 fields-encodeAll [] = refl
 fields-encodeAll (c ∷ cs) = fields-encode c (encodeAll cs) ∙ ap (λ (fs : List Field). encoded c ∷ fs) (fields-encodeAll cs)
 
@@ -117,3 +118,9 @@ cycles-encodeAll cs = ap cycles (fields-encodeAll cs) ∙ encoded-cycles cs
 
 pub count-encodeAll : (cs : List Cycle) → countOf (encodeAll cs) ≡ length cs
 count-encodeAll cs = ap length (fields-encodeAll cs) ∙ length-map cs encoded
+
+-- and there are no more of them than bytes
+pub count-within : (cs : List Cycle) → length cs ≤ length (encodeAll cs)
+unfolding encodeAll
+count-within [] = omega arith
+count-within (c ∷ cs) = omega (arith, length-append (encode c) (encodeAll cs), length-encode c, count-within cs)

@@ -6,10 +6,12 @@ use Prim.Native.Nat.{ℕ, zero, suc, _+_, _≤_, _<_}
 use native.Mathlib.Omega.{arith}
 use lib.Dec.{eqb, leb}
 use lib.ListN.{length, drop, length-append, length-drop, List·getD-append}
-use lib.Seq.{take-append-le, drop-append-le, drop-nil}
+use lib.Seq.{take-append-le, drop-append-le}
 use borrow.Author.Tests.{leb-true, le-leb, lt-leb}
 use Rattle.numbers.specs.Between.{both}
 use Rattle.list.specs.Tags.{word, known, lenOf, cycleOf}
+use Rattle.list.specs.Splits.{split}
+use Rattle.list.specs.SplitLaws.{split-skip, split-nil, split-good, split-not}
 use Rattle.list.specs.Fields.{Field, Reads, Unreadable, tag, body, headed, whole, fieldOf, parts, fields}
 use Rattle.list.specs.Meaning.{readable}
 
@@ -87,28 +89,21 @@ module _ (s t : List ℕ) (h : whole s ≡ true) where
 
 -- to pass bytes over is to drop them
 parts-skip : (k : ℕ) (s : List ℕ) → parts k s ≡ parts 0 (drop k s)
-unfolding parts
-parts-skip k [] = rw drop-nil
-parts-skip zero (b ∷ s) = refl
-parts-skip (suc k) (b ∷ s) = parts-skip k s
+parts-skip = split-skip fieldOf whole (λ b. 2 + lenOf b)
 
 pub fields-nil : (s : List ℕ) → length s ≤ 0 → fields s ≡ []
-unfolding parts
-fields-nil [] h = refl
-fields-nil (b ∷ s) h = absurd (omega arith)
+fields-nil = split-nil fieldOf whole (λ b. 2 + lenOf b)
 
 next : (b : ℕ) (s : List ℕ) → drop (3 + lenOf b) (b ∷ s) ≡ drop (2 + lenOf b) s
 next b s = let e : 3 + lenOf b ≡ suc (2 + lenOf b) = omega arith in rw e
 
 pub fields-whole : (s : List ℕ) → whole s ≡ true → fields s ≡ fieldOf s ∷ fields (drop (3 + lenOf (tag s)) s)
-unfolding parts
-fields-whole [] h = absurd (omega (arith, whole-length [] h))
-fields-whole (b ∷ s) h = rw h (ap (λ (fs : List Field). fieldOf (b ∷ s) ∷ fs) (parts-skip (2 + lenOf b) s ∙ ap fields (sym (next b s))))
+fields-whole s h =
+    let e : suc (2 + lenOf (tag s)) ≡ 3 + lenOf (tag s) = omega arith in
+    split-good fieldOf whole (λ b. 2 + lenOf b) s (omega (arith, whole-length s h)) h ∙ ap (λ (n : ℕ). fieldOf s ∷ fields (drop n s)) e
 
 pub fields-not : (s : List ℕ) → 0 < length s → whole s ≡ false → fields s ≡ Unreadable ∷ []
-unfolding parts
-fields-not [] p h = absurd (omega arith)
-fields-not (b ∷ s) p h = rw (h, field-not (b ∷ s) h)
+fields-not s p h = split-not fieldOf whole (λ b. 2 + lenOf b) s p h ∙ ap (λ (f : Field). f ∷ []) (field-not s h)
 
 -- ---- bytes whose every field can be read
 
@@ -134,7 +129,7 @@ parts-tail x a e = ap readable (parts-skip (2 + lenOf x) a ∙ ap fields (sym (n
 -- ---- the fields of joined lists, where the first can be read
 
 parts-append : (k : ℕ) (a b : List ℕ) → k ≤ length a → readable (parts k a) ≡ true → parts k (a ++ b) ≡ parts k a ++ fields b
-unfolding parts
+unfolding split
 parts-append zero [] b h e = refl
 parts-append (suc k) [] b h e = absurd (omega arith)
 parts-append (suc k) (x ∷ a) b h e = parts-append k a b (omega arith) e

@@ -1,11 +1,12 @@
 -- How a list's bytes split into fields: one-byte tag, two-byte length, body. Document 01, "Lists and fills". Assumes nothing.
-use Prim.Native.Nat.{ℕ, zero, suc, _+_}
+use Prim.Native.Nat.{ℕ, _+_}
 use mathlib.Core.Bool.{Bool, _&&_, cond}
-use mathlib.Core.List.{List, [], _∷_}
+use mathlib.Core.List.{List}
 use lib.Dec.{eqb, leb}
 use lib.ListN.{length, take, drop}
 use Rattle.vram.specs.declared.Cycle.{Cycle}
 use Rattle.list.specs.Tags.{byte, word, known, lenOf, cycleOf}
+use Rattle.list.specs.Splits.{split}
 
 -- a cycle with its body's length, or a field that cannot be read
 pub data Field : Type 0 where
@@ -38,11 +39,9 @@ sizeOf Unreadable = 0
 
 -- ---- all fields
 
--- those after k bytes are passed over; nothing is read after a field that cannot be
-unfoldable pub parts : ℕ → List ℕ → List Field
-parts k [] = []
-parts zero (b ∷ s) = fieldOf (b ∷ s) ∷ cond (whole (b ∷ s)) (parts (2 + lenOf b) s) []
-parts (suc k) (b ∷ s) = parts k s
+-- those after k bytes are passed over
+abbrev pub parts : ℕ → List ℕ → List Field
+parts k s = split fieldOf whole (λ b. 2 + lenOf b) k s
 
 abbrev pub fields : List ℕ → List Field
 fields s = parts 0 s

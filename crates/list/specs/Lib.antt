@@ -2,6 +2,8 @@
 
 -- what a tag and a body mean
 pub mod Tags
+-- how bytes split into fields of any kind
+pub mod Splits
 -- bytes as fields
 pub mod Fields
 -- the mask load that is still open
@@ -18,6 +20,8 @@ pub mod Waits
 pub mod Heads
 -- what the tag table comes to, tag by tag
 pub mod TagLaws
+-- of the splitting, for fields of any kind
+pub mod SplitLaws
 -- of the splitting into fields
 pub mod FieldLaws
 -- the verdict, field by field

@@ -7,7 +7,7 @@ ghost use Rattle.list.specs.Fields.{headed, whole};
 ghost use Rattle.list.specs.Waits.{waits};
 
 // A byte with room above it.
-fn wide(byte: u8) -> u16
+pub(crate) fn wide(byte: u8) -> u16
     ensures { λ r. ⌜ (r ≡ byte) × (r < 256) ⌝ }
 {
     byte as u16

@@ -3,6 +3,8 @@
 ghost use mathlib.Core.Path.{_≡_};
 ghost use Rattle.vram.specs.Board.{board};
 ghost use Rattle.list.specs.declared.Open.the-variants.{None};
+ghost use Rattle.list.specs.Tags.{word};
+ghost use Rattle.list.specs.Splits.{sized};
 ghost use Rattle.list.specs.Fields.{fields};
 ghost use Rattle.list.specs.Heads.{headOf};
 ghost use Rattle.list.specs.Meaning.{judged, outcome, runCall};
@@ -16,6 +18,8 @@ use checks::field_number;
 use fields::body_length;
 use fields::waits;
 use fields::whole;
+use fields::wide;
+use fields::word_at;
 use left::first_bad;
 use left::left_behind;
 use left::opens;
@@ -48,6 +52,29 @@ pub struct Ran {
     pub state: Vram,
     pub number: u32,
     pub place: u64,
+}
+
+// The number of two bytes at a place, high byte first. A byte past the end is read as 0.
+pub fn number_at(bytes: &[u8], at: usize) -> u16
+    ensures { λ r. ⌜ r ≡ word (now (bytes .entry)) at ⌝ }
+{
+    if bytes.len() <= at {
+        return 0;
+    }
+    if bytes.len() - at == 1 {
+        return wide(bytes[at]) * 256;
+    }
+    word_at(bytes, at)
+}
+
+// Whether the field at the head of some bytes says this length, and is not cut short. It may be of a kind that only a room above knows.
+pub fn sized(field: &[u8], length: u16) -> bool
+    ensures { λ r. ⌜ r ≡ sized (now (field .entry)) length ⌝ }
+{
+    if field.len() < 3 + (length as usize) {
+        return false;
+    }
+    word_at(field, 1) == length
 }
 
 // The field at the head of some bytes.

@@ -1,12 +1,13 @@
 -- Laws of bytes stored into a buffer, one part after another. Assumes nothing.
-use mathlib.Core.Path.{_≡_, refl, ap, _∙_}
-use mathlib.Core.List.{List, [], _∷_, _++_}
-use Prim.Native.Nat.{ℕ, suc, _+_, _≤_, _<_}
+use mathlib.Core.Path.{_≡_, refl, sym, ap, _∙_}
+use mathlib.Core.List.{List, [], _∷_, _++_, append-nil, append-assoc}
+use Prim.Native.Nat.{ℕ, suc, _+_, _-_, _≤_, _<_}
 use native.Mathlib.Omega.{arith}
 use native.Mathlib.Nat.{add-zero, add-suc}
 use native.Mathlib.Numerals.{add-one}
-use lib.ListN.{length, set, take, drop, length-append, length-drop}
-use lib.Seq.{sets, sets-eq, set-comm, take-append-seam}
+use lib.ListN.{length, set, take, drop, length-append, length-drop, drop-of-length-le}
+use lib.Seq.{sets, sets-eq, set-comm, take-append-seam, take-all, drop-drop}
+use borrow.Rule.Slice.PartMut.{putMid}
 use Rattle.numbers.specs.Buffer.{over}
 
 -- stores one after the other
@@ -55,3 +56,21 @@ module _ (bytes out : List ℕ) where
   -- what was written can be taken off again
   pub take-over : take (length bytes) (over bytes out) ≡ bytes
   take-over = take-append-seam bytes (drop (length bytes) out)
+
+-- ---- a part that runs to the end, and the whole when it is back
+pub tail-part : (l : List ℕ) (at : ℕ) → take (length l - at) (drop at l) ≡ drop at l
+tail-part l at = take-all (length l - at) (drop at l) (rw length-drop (omega arith))
+
+pub tail-back : (l part : List ℕ) (at : ℕ) → at ≤ length l → putMid at (length l - at) l part ≡ take at l ++ part
+tail-back l part at h =
+    let e : drop (length l - at) (drop at l) ≡ [] = drop-of-length-le (drop at l) {i = length l - at} (rw length-drop (omega arith)) in
+    ap (λ (x : List ℕ). take at l ++ (part ++ x)) e ∙ ap (λ (x : List ℕ). take at l ++ x) (append-nil part)
+
+-- bytes stored from the part's start on
+pub tail-stored : (l part bytes : List ℕ) (at : ℕ) → at + length bytes ≤ length l → part ≡ over bytes (take (length l - at) (drop at l))
+    → putMid at (length l - at) l part ≡ sets l at bytes
+tail-stored l part bytes at h e =
+    tail-back l part at (omega arith)
+    ∙ ap (λ (x : List ℕ). take at l ++ x)
+    (e ∙ ap (over bytes) (tail-part l at) ∙ ap (λ (x : List ℕ). bytes ++ x) (drop-drop (length bytes) at l))
+    ∙ sym (sets-eq bytes l at h ∙ append-assoc (take at l) bytes (drop (at + length bytes) l))

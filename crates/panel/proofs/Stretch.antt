@@ -1,27 +1,17 @@
 -- One stretch of a run, as the code writes it, is so many clocks of it. Assumes nothing.
 use mathlib.Core.Path.{_≡_, sym, ap, ap₂, _∙_}
-use mathlib.Core.List.{List, [], _++_, append-nil}
+use mathlib.Core.List.{List, _++_}
 use Prim.Native.Nat.{ℕ, _+_, _-_, _*_, _≤_, _<_}
 use native.Mathlib.Omega.{arith}
-use lib.ListN.{length, take, drop, length-take, length-drop, drop-of-length-le}
-use lib.Seq.{take-all}
+use lib.ListN.{length, take, drop, length-take}
 use borrow.Rule.Slice.PartMut.{putMid}
 use Rattle.vram.specs.declared.Vram.{Vram}
 use Rattle.vram.specs.Serial.{through, clocks, clockedWords}
 use Rattle.vram.specs.SerialLaws.{clockedWords-within}
 use Rattle.panel.specs.Panel.{Panel, bytesOf, shown}
 use Rattle.panel.specs.PanelLaws.{bytes-length, shown-add, shown-length, over-more}
-use Rattle.numbers.specs.BufferLaws.{over-length}
+use Rattle.numbers.specs.BufferLaws.{over-length, tail-part, tail-back}
 use Rattle.numbers.specs.Buffer.{over}
-
--- a part that runs to the end, and the whole when it is back
-tail-part : (l : List ℕ) (at : ℕ) → take (length l - at) (drop at l) ≡ drop at l
-tail-part l at = take-all (length l - at) (drop at l) (rw length-drop (omega arith))
-
-tail-back : (l part : List ℕ) (at : ℕ) → at ≤ length l → putMid at (length l - at) l part ≡ take at l ++ part
-tail-back l part at h =
-    let e : drop (length l - at) (drop at l) ≡ [] = drop-of-length-le (drop at l) {i = length l - at} (rw length-drop (omega arith)) in
-    ap (λ (x : List ℕ). take at l ++ (part ++ x)) e ∙ ap (λ (x : List ℕ). take at l ++ x) (append-nil part)
 
 module _ (p : Panel) (r out part : List ℕ) (s : Vram) (at count : ℕ) (q : s .pointer < 256) (h : count ≤ through s) (l : s .pointer + count ≤ length r) where
   pub one-stretch : (k : ℕ) → k ≡ count → at ≤ length out

@@ -1,6 +1,6 @@
 -- Laws of the call: what refuses it, and what it stores. Assumes nothing.
 use Prim.Native.Nat.{ℕ, _+_, _-_, _*_, _/_, _≤_, _<_}
-use mathlib.Core.Path.{_≡_, refl, sym, ap, ap₂, _∙_}
+use mathlib.Core.Path.{_≡_, refl, sym, ap, ap₂, _∙_, subst}
 use mathlib.Core.Bool.{Bool, true, false, _&&_, _||_, true≢false}
 use mathlib.Core.List.{List, [], _∷_, _++_, map}
 use mathlib.Core.Logic.{_≢_}
@@ -9,7 +9,7 @@ use native.Mathlib.Nat.{mul-zero, zero-mul}
 use lib.Dec.{eqb, leb}
 use lib.ListN.{length, length-map}
 use lib.Seq.{sets}
-use borrow.Author.Tests.{eqb-true, eqb-false, leb-true, le-leb, lt-leb}
+use borrow.Author.Tests.{eqb-true, eqb-false, eq-eqb, leb-true, le-leb, lt-leb}
 use Rattle.numbers.specs.Refuse.{refuse, firstOf}
 use Rattle.numbers.specs.RefuseLaws.{refuse-zero, firstOf-first, firstOf-later, leaves-before}
 use Rattle.numbers.specs.Between.{both}
@@ -43,6 +43,11 @@ asked-first f room = go (rowsOk f) (rectangleOk f) (plainOk f)
     go true true false = refl
     go true false c = refl
     go false b c = refl
+
+-- with rows that can be and not persistent it is 12 or nothing
+pub asked-plain : (f : Fill) → 1 ≤ f .rows → f .rows ≤ 512 → f .persistent ≡ 0 → askedRefusal f ≡ refuse (rectangleOk f) 12 0
+unfolding askedRefusal
+asked-plain f l m e = rw (le-leb 1 (f .rows) l, le-leb (f .rows) 512 m, eq-eqb (f .persistent) 0 e)
 
 -- a rectangle that is not refused
 pub asked-sound : (f : Fill) → askedRefusal f ≡ 0 → Sound f
@@ -104,6 +109,10 @@ module _ (f : Fill) (out : List ℕ) where
     fill-stores =
         ap (λ (x : ℕ). fillAnswer x (listOf f) (length (plan f)) out) (asked-first f (length out) ∙ firstOf-later (askedRefusal f) (refuse (roomOk f (length out)) 15 0) z)
 
+    -- with room enough it stores its list
+    pub fill-fits : length (listOf f) ≤ length out → fillCall f out ≡ outcome (filled 0 (length (listOf f)) (length (plan f))) (over (listOf f) out)
+    fill-fits h = fill-stores ∙ rw (le-leb (length (listOf f)) (length out) h)
+
     s : Sound f
     s = asked-sound f z
 
@@ -151,27 +160,29 @@ module _ (f : Fill) (out : List ℕ) where
           go true q = absurd (true≢false q)
           go false q = q
 
-      pub fill-words : (w b : ℕ) → w ≡ (f .endRow - f .firstRow) * (f .endColumn - f .firstColumn) → b ≡ (f .endRow - f .firstRow) * across f → w ≤ 1 + b
+      pub fill-words : W f ≤ 1 + B f
           → stored (wordRows (f .firstColumn) (f .endColumn - f .firstColumn) (f .colour) (f .mask) (f .firstRow) (f .endRow - f .firstRow))
           ((f .endRow - f .firstRow) * (f .endColumn - f .firstColumn)) out
           ≡ fillCall f out
-      fill-words w b p q h =
-          let x : plan f ≡ byWords f = plan-words f some-mask (omega (arith, words-closed f s, blocks-closed f s some-columns)) in
+      fill-words h =
+          let x : plan f ≡ byWords f = plan-words f some-mask h in
           stores (wordRows (f .firstColumn) (f .endColumn - f .firstColumn) (f .colour) (f .mask) (f .firstRow) (f .endRow - f .firstRow))
           ((f .endRow - f .firstRow) * (f .endColumn - f .firstColumn))
           (ap encodeAll x ∙ words-bytes f s)
           (ap length x ∙ length-map (coveredWords f) (wordWrite f) ∙ words-closed f s)
 
-      pub fill-blocks : (w b : ℕ) → w ≡ (f .endRow - f .firstRow) * (f .endColumn - f .firstColumn) → b ≡ (f .endRow - f .firstRow) * across f → 1 + b < w
-          → stored
-          (loadBytes (f .colour)
-          ++ blockRows (f .firstColumn / 4) (columnsIn (f .firstColumn) (f .endColumn) (f .firstColumn / 4)) (columnsIn (f .firstColumn) (f .endColumn) (f .firstColumn / 4 + (across f - 1)))
-          (f .mask) (across f) (f .firstRow) (f .endRow - f .firstRow))
-          (1 + (f .endRow - f .firstRow) * across f) out
-          ≡ fillCall f out
-      fill-blocks w b p q h =
-          let x : plan f ≡ byBlocks f = plan-blocks f some-mask (omega (arith, words-closed f s, blocks-closed f s some-columns)) in
+      -- the list's bytes, with n blocks in a row
+      abbrev pub blockBytes : ℕ → List ℕ
+      blockBytes n =
+          loadBytes (f .colour)
+          ++ blockRows (f .firstColumn / 4) (columnsIn (f .firstColumn) (f .endColumn) (f .firstColumn / 4)) (columnsIn (f .firstColumn) (f .endColumn) (f .firstColumn / 4 + (n - 1)))
+          (f .mask) n (f .firstRow) (f .endRow - f .firstRow)
+
+      pub fill-blocks : 1 + B f < W f → (n : ℕ) → n ≡ across f → stored (blockBytes n) (1 + (f .endRow - f .firstRow) * n) out ≡ fillCall f out
+      fill-blocks h n e =
+          let x : plan f ≡ byBlocks f = plan-blocks f some-mask h in
           let l : length (map (blockWrite f) (touchedBlocks f)) ≡ B f = length-map (touchedBlocks f) (blockWrite f) in
-          stores _ (1 + (f .endRow - f .firstRow) * across f)
+          subst (λ (k : ℕ). stored (blockBytes k) (1 + (f .endRow - f .firstRow) * k) out ≡ fillCall f out) (sym e)
+          (stores (blockBytes (across f)) (1 + (f .endRow - f .firstRow) * across f)
           (ap encodeAll x ∙ blocks-bytes f s some-columns)
-          (ap length x ∙ omega (arith, blocks-closed f s some-columns))
+          (ap length x ∙ omega (arith, blocks-closed f s some-columns)))

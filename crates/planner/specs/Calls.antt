@@ -45,10 +45,13 @@ pub record Outcome : Type 0 where
 abbrev pub outcome : Filled → List ℕ → Outcome
 outcome r out = record { answer = r; buffer = out }
 
+-- a number, and the counts where it refuses nothing
+abbrev pub answered : ℕ → ℕ → ℕ → Filled
+answered n bytes cycles = record { number = n; bytes = leaves n 0 bytes; cycles = leaves n 0 cycles }
+
 -- a list of so many cycles at the start of the buffer, where n refuses nothing
 abbrev pub fillAnswer : ℕ → List ℕ → ℕ → List ℕ → Outcome
-fillAnswer n bytes cycles out =
-    outcome (record { number = n; bytes = leaves n 0 (length bytes); cycles = leaves n 0 cycles }) (leaves n out (over bytes out))
+fillAnswer n bytes cycles out = outcome (answered n (length bytes) cycles) (leaves n out (over bytes out))
 
 unfoldable pub fillCall : Fill → List ℕ → Outcome
 fillCall f out = fillAnswer (fillRefusal f (length out)) (listOf f) (length (plan f)) out
@@ -61,3 +64,8 @@ askedRefusal f = refuse (rowsOk f) 2 (refuse (rectangleOk f) 12 (refuse (plainOk
 -- a list at the start of the buffer, where there is room for it
 abbrev pub stored : List ℕ → ℕ → List ℕ → Outcome
 stored bytes cycles out = fillAnswer (refuse (leb (length bytes) (length out)) 15 0) bytes cycles out
+
+-- ---- a fill that is only measured: what it answers where there is room enough
+
+unfoldable pub measureCall : Fill → Filled
+measureCall f = answered (askedRefusal f) (length (listOf f)) (length (plan f))

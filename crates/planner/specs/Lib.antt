@@ -4,6 +4,8 @@
 pub mod Fill
 -- what a fill answers and leaves
 pub mod Calls
+-- what a fill comes to, before a byte is written
+pub mod Shapes
 -- what a list is to paint, and what is demanded
 pub mod Paint
 -- the list's bytes, as the code stores them
@@ -20,6 +22,8 @@ pub mod ColumnLaws
 pub mod PlanLaws
 -- of the refusals and the ways out
 pub mod CallLaws
+-- of what a fill comes to
+pub mod ShapeLaws
 -- what painted means, bit by bit
 pub mod PaintLaws
 -- the plan paints, write by write
@@ -46,3 +50,5 @@ pub mod AsDemanded
 pub mod ClosedForm
 -- a fill after a list
 pub mod AfterList
+-- cycle by cycle
+pub mod NeverHalf

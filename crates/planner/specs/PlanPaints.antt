@@ -2,13 +2,13 @@
 use Prim.Native.Nat.{ℕ, zero, suc, _+_, _*_, _/_, _%_, _≤_, _<_}
 use mathlib.Core.Path.{_≡_, refl, sym, ap, ap₂, _∙_, subst}
 use mathlib.Core.Bool.{Bool, true, false, _&&_, _||_, cond}
-use mathlib.Core.List.{List, _∷_, map}
+use mathlib.Core.List.{List, [], _∷_, map}
 use native.Mathlib.Omega.{arith}
 use lib.Dec.{eqb}
-use lib.ListN.{length, getD}
-use lib.Seq.{ext-getD}
+use lib.ListN.{length, getD, take}
+use lib.Seq.{ext-getD, take-nil}
 use borrow.Author.Tests.{eqb-true, eqb-false}
-use Rattle.numbers.specs.Between.{between, same-truth, between-in, between-says, between-out}
+use Rattle.numbers.specs.Between.{between, both, same-truth, between-in, between-says, between-out}
 use Rattle.words.specs.Bit.{bit}
 use Rattle.words.specs.Word.{merged, lets}
 use Rattle.words.specs.WordLaws.{merged-cong, merged-none, lets-bit}
@@ -26,6 +26,26 @@ use Rattle.planner.specs.Fill.{Fill, inside, touched, picked, touchedBlo
 use Rattle.planner.specs.FillLaws.{Sound, inside-says, touched-in}
 use Rattle.planner.specs.Paint.{painted, Memory}
 use Rattle.planner.specs.PaintLaws.{drawn, drawn-at, drawn-cong, drawn-none, drawn-twice, drawn-memory, mapAt-length}
+
+-- ---- the first of some numbers that were picked, and of what is made of each
+
+picked-first : (p : ℕ → Bool) (n at k : ℕ) → (j : ℕ) × (j ≤ n) × (take k (picked p at n) ≡ picked p at j)
+unfolding picked
+picked-first p zero at k = (zero, omega arith, take-nil k)
+picked-first p (suc n) at zero = (zero, omega arith, refl)
+picked-first p (suc n) at (suc k) = go (p at) refl (picked-first p n (suc at) k) (picked-first p n (suc at) (suc k))
+  where
+    go : (t : Bool) → p at ≡ t
+        → (j : ℕ) × (j ≤ n) × (take k (picked p (suc at) n) ≡ picked p (suc at) j)
+        → (j : ℕ) × (j ≤ n) × (take (suc k) (picked p (suc at) n) ≡ picked p (suc at) j)
+        → (j : ℕ) × (j ≤ suc n) × (take (suc k) (cond t (at ∷ picked p (suc at) n) (picked p (suc at) n)) ≡ picked p at j)
+    go true e i h = (suc (i .0), omega (arith, i .1), rw e (ap (λ (l : List ℕ). at ∷ l) (i .2)))
+    go false e i h = (suc (h .0), omega (arith, h .1), rw e (h .2))
+
+take-map : {A B : Type 0} (g : A → B) (k : ℕ) (l : List A) → take k (map g l) ≡ map g (take k l)
+take-map g zero l = refl
+take-map g (suc k) [] = refl
+take-map {A} {B} g (suc k) (x ∷ l) = ap (λ (y : List B). g x ∷ y) (take-map g k l)
 
 -- ---- units of the memory, one write for each: words, or blocks. `unit a` is the unit of word a, p picks units, g writes one
 
@@ -83,6 +103,16 @@ module _ (f : Fill) (rows : ℕ) (s : Vram) (r : List ℕ) (unit : ℕ → ℕ) 
           ∙ ap (λ (l : List ℕ). board s l r)
           (drawn-twice f here (reach (suc at) n) m ∙ drawn-cong f (λ a. here a || reach (suc at) n a) (reach at (suc n)) (join at n) m)
       go false e ih = ih m (omega arith) k ∙ ap (λ (l : List ℕ). board s l r) (drawn-cong f (reach (suc at) n) (reach at (suc n)) (λ a. skip at n a e) m)
+
+  -- the first k of n writes: those of the units below some j
+  pub units-first : (k n : ℕ) (m : List ℕ) → n ≤ limit → Memory rows m
+      → (j : ℕ) × (run (take k (map g (picked p 0 n))) (board s m r) ≡ board s (drawn f (reach 0 j) m) r)
+  units-first k n m h fits =
+      let t = picked-first p n 0 k in (
+        t .0,
+        ap (λ (l : List Cycle). run l (board s m r)) (take-map g k (picked p 0 n) ∙ ap (map g) (t .2))
+            ∙ units (t .0) 0 m (omega (arith, t .1)) fits,
+      )
 
 -- ---- one write
 
@@ -188,6 +218,14 @@ module _ (f : Fill) (rows : ℕ) (s : Vram) (r : List ℕ) (g : given s (512 * r
             none true = refl
             none false = refl
 
+    -- a block that is not touched has no word inside
+    missed : (a : ℕ) → touched f (a / 4) ≡ false → inside f a ≡ false
+    missed a e = go (inside f a) refl
+      where
+        go : (t : Bool) → inside f a ≡ t → t ≡ false
+        go true q = sym (touched-in f a q) ∙ e
+        go false q = refl
+
     pub words-paint : (m : List ℕ) → Memory rows m → run (byWords f) (board s m r) ≡ board s (painted f m) r
     words-paint m k =
         ap (λ (n : ℕ). run (map (wordWrite f) (picked (inside f) 0 (512 * n))) (board s m r)) same
@@ -199,10 +237,27 @@ module _ (f : Fill) (rows : ℕ) (s : Vram) (r : List ℕ) (g : given s (512 * r
         ap (λ (n : ℕ). run (map (blockWrite f) (picked (touched f) 0 (128 * n))) (board s m r)) same
         ∙ units f rows s r (λ a. a / 4) (touched f) (blockWrite f) (128 * rows) missed (λ x m l i k. block-one m k c x l) (128 * rows) 0 m (omega arith) k
         ∙ ap (λ (l : List ℕ). board s l r) (drawn-cong f (λ a. between 0 (0 + 128 * rows) (a / 4) && inside f a) (inside f) (whole (λ a. a / 4) (128 * rows) (λ a l. omega arith)) m)
-      where
-        missed : (a : ℕ) → touched f (a / 4) ≡ false → inside f a ≡ false
-        missed a e = go (inside f a) refl
-          where
-            go : (t : Bool) → inside f a ≡ t → t ≡ false
-            go true q = sym (touched-in f a q) ∙ e
-            go false q = refl
+
+    -- ---- the first of them: some words of the rectangle are painted whole, and no other word is touched
+
+    abbrev pub Drawn : List Cycle → List ℕ → Type 0
+    Drawn l m = (q : ℕ → Bool) × ((a : ℕ) → q a ≡ true → inside f a ≡ true) × (run l (board s m r) ≡ board s (drawn f q m) r)
+
+    within : (unit : ℕ → ℕ) (j a : ℕ) → (between 0 (0 + j) (unit a) && inside f a) ≡ true → inside f a ≡ true
+    within unit j a e = both (between 0 (0 + j) (unit a)) (inside f a) e .1
+
+    pub words-first : (k : ℕ) (m : List ℕ) → Memory rows m → Drawn (take k (byWords f)) m
+    words-first k m h =
+        let u = units-first f rows s r (λ a. a) (inside f) (wordWrite f) (512 * rows) (λ a e. e) (λ x m l i k. word-one m k x l i) k (512 * rows) m (omega arith) h in (
+          (λ a. between 0 (0 + u .0) a && inside f a),
+          within (λ a. a) (u .0),
+          ap (λ (n : ℕ). run (take k (map (wordWrite f) (picked (inside f) 0 (512 * n)))) (board s m r)) same ∙ u .1,
+        )
+
+    pub blocks-first : s .colour ≡ f .colour → (k : ℕ) (m : List ℕ) → Memory rows m → Drawn (take k (map (blockWrite f) (touchedBlocks f))) m
+    blocks-first c k m h =
+        let u = units-first f rows s r (λ a. a / 4) (touched f) (blockWrite f) (128 * rows) missed (λ x m l i k. block-one m k c x l) k (128 * rows) m (omega arith) h in (
+          (λ a. between 0 (0 + u .0) (a / 4) && inside f a),
+          within (λ a. a / 4) (u .0),
+          ap (λ (n : ℕ). run (take k (map (blockWrite f) (picked (touched f) 0 (128 * n)))) (board s m r)) same ∙ u .1,
+        )

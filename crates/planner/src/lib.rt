@@ -2,9 +2,10 @@
 // The panel's host program is in C and calls `linkshoar_fill`.
 // It checks first and writes after, straight into the lent buffer.
 ghost use mathlib.Core.Path.{_≡_};
-ghost use Prim.Native.Nat.{_≤_, _*_};
+ghost use Prim.Native.Nat.{_+_, _-_, _*_, _/_, _≤_};
 ghost use Rattle.planner.specs.Fill.{fill};
-ghost use Rattle.planner.specs.Calls.{outcome, askedRefusal, fillCall};
+ghost use Rattle.planner.specs.Calls.{outcome, askedRefusal, measureCall, fillCall};
+ghost use Rattle.planner.specs.Shapes.{shapeOf};
 ghost use Rattle.planner.specs.Paint.{listIn, Demanded};
 
 mod columns;
@@ -24,12 +25,28 @@ pub struct Filled {
     pub cycles: u32,
 }
 
+// What a fill comes to: refused with a number; nothing to paint; so many word writes; or a colour load and so many block writes.
+pub(crate) enum Shape {
+    Refused(u32),
+    Nothing,
+    Words(u32),
+    Blocks(u32),
+}
+
 // A product of two numbers of rows and columns.
 fn area(height: u32, width: u32) -> u32
     requires { ⌜ (height ≤ 512) × (width ≤ 512) ⌝ }
     ensures { λ r. ⌜ (r ≡ height * width) × (r ≤ 262144) ⌝ }
 {
     height * width
+}
+
+// How many blocks of a row are touched, where the rectangle has columns.
+fn across(first_column: u32, end_column: u32) -> u32
+    requires { ⌜ («first_column» ≤ «end_column») × («end_column» ≤ 512) ⌝ }
+    ensures { λ r. ⌜ (r ≡ («end_column» + 3) / 4 - «first_column» / 4) × (r ≤ 512) ⌝ }
+{
+    (end_column + 3) / 4 - first_column / 4
 }
 
 // What refuses a fill, but for its buffer: 2, 12 and 13. Mask and colour are never refused.
@@ -55,6 +72,89 @@ fn refusal(
     refuse((1 <= rows) & (rows <= 512), numbers::MEMORY_LENGTH, n)
 }
 
+// What a fill comes to: its number where that is 2, 12 or 13, and else what its list is made of.
+fn shape_of(
+    rows: u32,
+    first_row: u32,
+    end_row: u32,
+    first_column: u32,
+    end_column: u32,
+    mask: u16,
+    persistent: u32,
+) -> Shape
+    ensures { λ r. ⌜ r ≡ shapeOf (fill rows «first_row» «end_row» «first_column» «end_column» mask 0 persistent) ⌝ }
+{
+    let number = refusal(
+        rows,
+        first_row,
+        end_row,
+        first_column,
+        end_column,
+        persistent,
+    );
+    if number != numbers::DONE {
+        return Shape::Refused(number);
+    }
+    let height = end_row - first_row;
+    let width = end_column - first_column;
+    if (mask == 0) | (height == 0) | (width == 0) {
+        return Shape::Nothing;
+    }
+    let n = across(first_column, end_column);
+    let words = area(height, width);
+    let blocks = area(height, n);
+    if words <= 1 + blocks {
+        Shape::Words(words)
+    } else {
+        Shape::Blocks(blocks)
+    }
+}
+
+// What a fill answers where there is room enough: 2, 12, 13 or 0, the bytes of its list and the cycles. Nothing is written.
+pub fn measure(
+    rows: u32,
+    first_row: u32,
+    end_row: u32,
+    first_column: u32,
+    end_column: u32,
+    mask: u16,
+    persistent: u32,
+) -> Filled
+    ensures { λ r. ⌜ r ≡ measureCall (fill rows «first_row» «end_row» «first_column» «end_column» mask 0 persistent) ⌝ }
+{
+    let shape = shape_of(
+        rows,
+        first_row,
+        end_row,
+        first_column,
+        end_column,
+        mask,
+        persistent,
+    );
+    match shape {
+        Shape::Refused(number) => Filled {
+            number,
+            bytes: 0,
+            cycles: 0,
+        },
+        Shape::Nothing => Filled {
+            number: numbers::DONE,
+            bytes: 0,
+            cycles: 0,
+        },
+        Shape::Words(words) => Filled {
+            number: numbers::DONE,
+            bytes: 13 * words,
+            cycles: words,
+        },
+        Shape::Blocks(blocks) => Filled {
+            number: numbers::DONE,
+            bytes: 6 + 13 * blocks,
+            cycles: 1 + blocks,
+        },
+    }
+}
+
 // A fill's list at the start of the buffer. Persistent: 0 no, any other number yes.
 // Where it answers 0, the list is as demand 3 asks: it paints, no list that paints is shorter, and the counts are its own.
 #[no_mangle]
@@ -72,47 +172,45 @@ pub extern "C" fn linkshoar_fill(
     ensures outcome { λ r. ⌜ outcome r (now (list .exit)) ≡ fillCall (fill rows «first_row» «end_row» «first_column» «end_column» mask colour persistent) (now (list .entry)) ⌝ }
     ensures demand { λ r. ⌜ (r .number ≡ 0 → Demanded (fill rows «first_row» «end_row» «first_column» «end_column» mask colour persistent) r (listIn (outcome r (now (list .exit))))) ⌝ }
 {
-    let n = refusal(
+    let shape = shape_of(
         rows,
         first_row,
         end_row,
         first_column,
         end_column,
+        mask,
         persistent,
     );
-    if n != numbers::DONE {
-        return Filled {
-            number: n,
+    match shape {
+        Shape::Refused(number) => Filled {
+            number,
             bytes: 0,
             cycles: 0,
-        };
-    }
-    let height = end_row - first_row;
-    let width = end_column - first_column;
-    if (mask == 0) | (height == 0) | (width == 0) {
-        return Filled {
+        },
+        Shape::Nothing => Filled {
             number: numbers::DONE,
             bytes: 0,
             cycles: 0,
-        };
-    }
-    let block = first_column / 4;
-    let across = (end_column + 3) / 4 - block;
-    let words = area(height, width);
-    let blocks = area(height, across);
-    if words <= 1 + blocks {
-        put_words(list, first_row, height, first_column, width, colour, mask)
-    } else {
-        put_blocks(
+        },
+        Shape::Words(_) => put_words(
             list,
             first_row,
-            height,
-            block,
-            across,
+            end_row - first_row,
+            first_column,
+            end_column - first_column,
+            colour,
+            mask,
+        ),
+        Shape::Blocks(_) => put_blocks(
+            list,
+            first_row,
+            end_row - first_row,
+            first_column / 4,
+            across(first_column, end_column),
             first_column,
             end_column,
             colour,
             mask,
-        )
+        ),
     }
 }
