@@ -39,10 +39,10 @@ static void make_page(void)
     static const uint16_t height[5] = {22, 14, 14, 22, 1}, column[5] = {24, 64, 300, 292, 24}, width[5] = {22, 90, 90, 110, 464};
     static const uint16_t mask[5] = {0xFF00, 0x00FF, 0x00FF, 0xFF00, 0x00FF};
     for (uint16_t i = 0; i < RECTANGLES; i++) {
-        uint16_t row = (uint16_t)(60 * (i / 5)), k = i % 5, end_row = (uint16_t)(row + height[k]), end_column = (uint16_t)(column[k] + width[k]);
-        rectangle q = {row, end_row, column[k], end_column, mask[k], (uint16_t)(77 * i)};
+        uint16_t row = (uint16_t)(60 * (i / 5)), k = i % 5;
+        rectangle q = {row, (uint16_t)(row + height[k]), column[k], (uint16_t)(column[k] + width[k]), mask[k], (uint16_t)(77 * i)};
         rectangles[i] = q;
-        linkshoar_put_rectangle(page + LINKSHOAR_RECTANGLE_BYTES * i, row, end_row, column[k], end_column, mask[k], q.colour);
+        linkshoar_put_rectangle(page + LINKSHOAR_RECTANGLE_BYTES * i, q.first_row, q.end_row, q.first_column, q.end_column, q.mask, q.colour);
     }
     if (linkshoar_page(512, 0, page, sizeof page, plan, sizeof plan).cycles != PAGE_CYCLES) {
         fprintf(stderr, "the page has not the cycles that it is divided by\n");

@@ -75,7 +75,8 @@ static void plan_singly(void)
     size_t at = 0;
     for (int i = 0; i < RECTANGLES; i++) {
         rectangle q = rectangles[i];
-        linkshoar_filled r = linkshoar_fill(512, q.first_row, q.end_row, q.first_column, q.end_column, q.mask, q.colour, 0, plan + at, sizeof plan - at);
+        linkshoar_filled r = linkshoar_fill(512, q.first_row, q.end_row, q.first_column, q.end_column, q.mask, q.colour, 0, plan + at,
+                                            sizeof plan - at);
         if (r.number)
             break;
         at += r.bytes;

@@ -40,8 +40,8 @@ static void fill(uint32_t row, uint32_t column, uint32_t height, uint32_t width,
         fprintf(stderr, "too many rectangles\n");
         exit(1);
     }
-    named += linkshoar_put_rectangle(rectangles + named, (uint16_t)row, (uint16_t)(row + height), (uint16_t)column, (uint16_t)(column + width),
-                                     mask, colour);
+    named += linkshoar_put_rectangle(rectangles + named, (uint16_t)row, (uint16_t)(row + height), (uint16_t)column,
+                                     (uint16_t)(column + width), mask, colour);
     words_alone += (unsigned long)height * width;
 }
 

@@ -4,7 +4,7 @@
  * The caller holds the states and lends the memory; nothing is allocated, nothing is kept, and no call blocks. A state goes in by value
  * and the new one comes back in the answer: keep it, since the next call takes it. Every call takes every input: what it cannot do it
  * refuses with a number, and a refusal changes nothing that was lent, hands the state back as it came and answers zeros
- * besides, but for the place in a list.
+ * besides, but for the place in a list or a page.
  *
  * What C owes: lengths that are true, in words or bytes as the pointer's type is; slices that do not overlap; yes-or-no bytes of 0 or 1 and
  * a stop of 16, 32, 64 or 128 inside a state (a state with another is refused with 1). A yes-or-no argument takes any number. Null with
@@ -56,7 +56,7 @@ extern "C" {
 #define LINKSHOAR_VERSION "4.8.0"
 
 /* The numbers given back. Where several apply the lowest is given; in a list the first bad field wins, then its lowest number, and 20 is
- * given only where no field is refused; in a page the first bad rectangle wins over 13 and 15. */
+ * given only where no field is refused; in a page the first bad field wins over 13 and 15. */
 enum {
     LINKSHOAR_DONE = 0,
     LINKSHOAR_STATE_EXCLUDED = 1,
@@ -149,7 +149,7 @@ typedef struct {
 
 typedef struct {
     uint32_t number;
-    uint64_t place;         /* of 4 and 12: the offset of the rectangle that is refused, in bytes from the first; else 0 */
+    uint64_t place;         /* of 4 and 12: the offset of the field that is refused, in bytes from the first; else 0 */
     uint64_t bytes, cycles; /* of the joined list */
 } linkshoar_paged;
 
@@ -352,12 +352,12 @@ static inline size_t linkshoar_put_stop_points(uint8_t *at, uint8_t length)
 
 /* ---- Pages
  *
- * A page is rectangles, one after the other, each a field as in a list: tag 8, length 12, and six numbers of two bytes: first row, end row, first
- * column, end column (ends not included), mask, colour. They are painted in this order, so the last is on top, and each whole before the
- * next is begun: name a result's mark before the result, and no point of the running shows the new result without its mark. */
+ * A page is rectangles, one after the other, each a field as in a list: tag 8, length 12, and six numbers of two bytes: first row, end row,
+ * first column, end column (ends not included), mask, colour. They are painted in this order, so the last is on top, and each whole before
+ * the next is begun: name a result's mark before the result, and no point of the running shows the new result without its mark. */
 enum { LINKSHOAR_TAG_RECTANGLE = 8 };
 
-/* 15 bytes: a rectangle. It writes what it is given: linkshoar_page judges. An argument is as wide as its place, and C cuts a wider number. */
+/* 15 bytes: a rectangle. It writes what it is given: linkshoar_page judges. An argument is as wide as its place, and C cuts a wider one. */
 static inline size_t linkshoar_put_rectangle(uint8_t *at, uint16_t first_row, uint16_t end_row, uint16_t first_column, uint16_t end_column,
                                              uint16_t mask, uint16_t colour)
 {
@@ -383,16 +383,17 @@ linkshoar_palette linkshoar_palette_fresh(void);
 linkshoar_filled linkshoar_fill(uint32_t rows, uint32_t first_row, uint32_t end_row, uint32_t first_column, uint32_t end_column,
                                 uint16_t mask, uint16_t colour, uint32_t persistent, uint8_t *list, size_t length);
 
-/* Plans a page: writes the lists of its rectangles' fills, joined, for linkshoar_list_run: the same bytes as calling linkshoar_fill for each with
- * the buffer moved along, and the sums of their bytes and cycles. Each rectangle's own part is shortest; the whole is not made shorter, so a
- * colour may be loaded twice. No rectangle gives an empty list. rows, persistent: as for linkshoar_fill. rectangles, length: see "Pages". list,
- * room: the room for the joined list, measured before a byte is written; LINKSHOAR_LIST_BYTES for each rectangle is always enough. The
- * rectangles and the list do not overlap. Refused with 2; then 4 and 12 by the first bad rectangle, with its place; then 13; then 15. */
+/* Plans a page: writes the lists of its rectangles' fills, joined, for linkshoar_list_run: the same bytes as calling linkshoar_fill for each
+ * with the buffer moved along, and the sums of their bytes and cycles. Each rectangle's own part is shortest; the whole is not made
+ * shorter, so a colour may be loaded twice. No rectangle gives an empty list. rows, persistent: as for linkshoar_fill. rectangles, length:
+ * see "Pages". list, room: the room for the joined list, measured before a byte is written; LINKSHOAR_LIST_BYTES for each rectangle is always
+ * enough. The rectangles and the list do not overlap. Refused with 2; then 4 and 12 by the first bad field, with its place; then 13;
+ * then 15. */
 linkshoar_paged linkshoar_page(uint32_t rows, uint32_t persistent, const uint8_t *rectangles, size_t length, uint8_t *list, size_t room);
 
 /* Checks a list whole, then runs it in order; length: the list's bytes. A list with a mask load or a reset refresh, where it is not refused,
- * leaves the mask not persistent; any other leaves persistence as it was. So from a fresh state on no fill that is given the state's own
- * persistent is refused with 13. Refused with 1 to 10, 19, 20. */
+ * leaves the mask not persistent; any other leaves persistence as it was. So from a fresh state on no fill or page that is given the
+ * state's own persistent is refused with 13. Refused with 1 to 10, 19, 20. */
 linkshoar_ran linkshoar_list_run(linkshoar_vram state, uint16_t *memory, size_t words, uint16_t *serial, size_t serial_words,
                                  const uint8_t *list, size_t length);
 
@@ -492,7 +493,7 @@ static inline const char *linkshoar_strerror(uint32_t number)
     case LINKSHOAR_NOT_LOADED: return "no full transfer made before";
     case LINKSHOAR_SELECT_OTHER: return "no such select";
     case LINKSHOAR_RECTANGLE_OUTSIDE: return "rectangle outside the rows fitted or 512 columns";
-    case LINKSHOAR_FILL_PERSISTENT: return "fill while the mask is persistent";
+    case LINKSHOAR_FILL_PERSISTENT: return "fill or page while the mask is persistent";
     case LINKSHOAR_RUN_OVER: return "run over 512 clocks";
     case LINKSHOAR_BUFFER_SHORT: return "answer buffer too short";
     case LINKSHOAR_SETTING_OTHER: return "setting out of range, or page mode together with interleaved update";

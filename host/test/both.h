@@ -7,7 +7,7 @@
 
 void both_fill(uint32_t rows, uint32_t first_row, uint32_t end_row, uint32_t first_column, uint32_t end_column, uint16_t mask,
                uint16_t colour, uint32_t persistent, size_t room); /* in fill.c: the planner's own archive has this call alone */
-linkshoar_paged both_page(uint32_t rows, uint32_t persistent, size_t length, size_t room); /* in page.c: what the second implementation answers */
+linkshoar_paged both_page(uint32_t rows, uint32_t persistent, size_t length, size_t room); /* in page.c; the answer */
 linkshoar_vram both_list_run(linkshoar_vram state, size_t words, size_t serial_words, size_t length); /* the new state */
 void both_word_read(size_t words, uint32_t row, uint32_t column, uint32_t strobes);
 void both_serial_clock(linkshoar_vram state, size_t serial_words);

@@ -18,7 +18,8 @@ uint32_t about(uint32_t n); /* mostly below n, and else at its edge or past a na
  * it, also before and past the part that is lent. */
 enum { MOST_WORDS = 513 * 512, MOST_SERIAL = 300, MOST_TABLE = 800, AROUND = 512 };
 extern uint16_t *const memory_a, *const memory_b, *const serial_a, *const serial_b;
-extern uint8_t *const table_a, *const table_b, *const bytes_a, *const bytes_b; /* the table: or a page's rectangles; the bytes: a list, or a run's answer */
+extern uint8_t *const table_a, *const table_b; /* the palette's, or a page's rectangles */
+extern uint8_t *const bytes_a, *const bytes_b; /* a list, or a run's answer */
 
 void some_words(uint16_t *a, uint16_t *b, size_t n);
 void some_bytes(uint8_t *a, uint8_t *b, size_t n);

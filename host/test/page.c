@@ -26,8 +26,8 @@ static size_t put_some(uint8_t *at, uint32_t rows)
     uint32_t row = below(rows + 1), column = below(513), height = below(4), width = below(12);
     uint32_t end_row = chance(40) ? below(600) : row + (row + height > rows ? rows - row : height);
     uint32_t end_column = chance(40) ? below(600) : column + (column + width > 512 ? 512 - column : width);
-    return linkshoar_put_rectangle(at, (uint16_t)row, (uint16_t)end_row, (uint16_t)column, (uint16_t)end_column, (uint16_t)(chance(8) ? 0 : any()),
-                                   (uint16_t)any());
+    return linkshoar_put_rectangle(at, (uint16_t)row, (uint16_t)end_row, (uint16_t)column, (uint16_t)end_column,
+                                   (uint16_t)(chance(8) ? 0 : any()), (uint16_t)any());
 }
 
 /* A page for both: how many bytes of it are lent. */
@@ -39,8 +39,10 @@ static size_t some_page(uint32_t rows)
     if (length && chance(3)) { /* one byte damaged, or the end cut off */
         if (chance(3))
             cut = below(16) % (length + 1);
-        else
-            table_a[chance(2) ? BYTES * below((uint32_t)length / BYTES) + below(3) : below((uint32_t)length)] = (uint8_t)(chance(2) ? below(14) : any());
+        else {
+            size_t header = BYTES * below((uint32_t)length / BYTES) + below(3), byte = below((uint32_t)length);
+            table_a[chance(2) ? header : byte] = (uint8_t)(chance(2) ? below(14) : any());
+        }
     }
     memcpy(table_b, table_a, length);
     return length - cut;

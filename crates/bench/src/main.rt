@@ -1,7 +1,8 @@
 // Runs the bench cases of document 01 that are not proved, and more, and prints what came. The starred ones, M-102's and ours for
-// M-107 and M-111 are proved in specs/.
+// M-107 and M-111 are proved in specs/; ours for M-103 is run.
 ghost use mathlib.Core.Path.{_≡_};
 ghost use lib.ListN.{length};
+use page::linkshoar_page;
 use planner::Filled;
 use planner::linkshoar_fill;
 use vram::Vram;
@@ -39,6 +40,20 @@ fn say_filled(filled: Filled) {
     say_number(filled.bytes);
     say(b", cycles ");
     say_number(filled.cycles);
+    say(b"\n");
+}
+
+// What a page of 64 rows answers.
+fn say_page(rectangles: &[u8], list: &mut [u8]) {
+    let paged = linkshoar_page(64, 0, rectangles, list);
+    say(b"page ");
+    say_number(paged.number);
+    say(b" at ");
+    io::print_decimal(libc::STDOUT_FILENO, paged.place);
+    say(b", bytes ");
+    io::print_decimal(libc::STDOUT_FILENO, paged.bytes);
+    say(b", cycles ");
+    io::print_decimal(libc::STDOUT_FILENO, paged.cycles);
     say(b"\n");
 }
 
@@ -115,9 +130,20 @@ fn mask_left_behind() {
     say_report(b"and reset: ", &list);
 }
 
+// A page: the mark 02 over the words of document 01's worked fill, and then that fill; the same with the second rectangle cut short.
+fn page_of_two() {
+    let rectangles =
+        *b"\x08\0\x0C\0\x03\0\x04\0\x02\0\x07\xFF\0\x02\0\x08\0\x0C\0\x03\0\x04\0\x02\0\x07\0\xFF\0\x11";
+    let mut list = [0u8; 64];
+    say_page(&rectangles, &mut list);
+    say_report(b"a mark and its result: ", &list);
+    say_page(&rectangles[..29], &mut list);
+}
+
 fn main() {
     worked_fill();
     last_row();
     long_lists();
     mask_left_behind();
+    page_of_two();
 }

@@ -1,6 +1,6 @@
 -- Laws of fields judged in order, with what they leave behind. Assumes nothing.
 use mathlib.Core.Path.{_≡_, refl, sym, ap, ap₂, _∙_}
-use mathlib.Core.Bool.{Bool, true, false}
+use mathlib.Core.Bool.{Bool, true, false, cond}
 use mathlib.Core.List.{List, [], _∷_}
 use mathlib.Core.Logic.{_≢_}
 use Prim.Native.Nat.{ℕ, _+_}
@@ -34,6 +34,15 @@ module _ (v later : Bad) where
       go : (t : Bool) → eqb (v .number) 0 ≡ t → (v .number ≡ 0) × (later .number ≡ 0)
       go true q = (eqb-true _ _ q, sym (ap (λ (w : Bad). w .number) (bad-later (eqb-true _ _ q))) ∙ h)
       go false q = let n = eqb-false _ _ q in absurd (n (sym (ap (λ (w : Bad). w .number) (bad-first n)) ∙ h))
+
+  -- a number that neither gives is not given
+  pub bad-never : (n : ℕ) → v .number ≢ n → later .number ≢ n → firstBad v later .number ≢ n
+  unfolding firstBad
+  bad-never n p q = go (eqb (v .number) 0)
+    where
+      go : (t : Bool) → cond t later v .number ≢ n
+      go true = q
+      go false = p
 
 -- ---- what is left behind
 

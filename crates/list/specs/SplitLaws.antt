@@ -3,10 +3,11 @@ use mathlib.Core.Path.{_≡_, refl, ap}
 use mathlib.Core.Bool.{Bool, true, false, cond}
 use mathlib.Core.List.{List, [], _∷_, List·Memᴰ, List·Memᴰ·not-nil, List·Memᴰ·cases-cons}
 use mathlib.Core.Logic.{⊎-elim}
-use Prim.Native.Nat.{ℕ, zero, suc, _+_, _*_, _≤_, _<_}
+use Prim.Native.Nat.{ℕ, zero, suc, _+_, _*_, _/_, _%_, _≤_, _<_}
 use native.Mathlib.Omega.{arith}
+use native.Mathlib.Nat.{div-add-mod'}
 use lib.Dec.{eqb, leb}
-use lib.ListN.{length, drop, List·getD-eq-default}
+use lib.ListN.{length, getD, drop, List·getD-eq-default}
 use lib.Seq.{drop-nil}
 use borrow.Author.Tests.{leb-true, le-leb, lt-leb}
 use Rattle.numbers.specs.Between.{both}
@@ -25,6 +26,16 @@ module _ (s : List ℕ) (i : ℕ) where
   pub word-last : length s ≤ i + 1 → word s i ≡ byte s i * 256
   unfolding word
   word-last h = rw (List·getD-eq-default s 0 h) (omega arith)
+
+-- a number that was written is read back
+pub word-two : (n : ℕ) (s : List ℕ) (i : ℕ) → byte s i ≡ n / 256 → byte s (i + 1) ≡ n % 256 → word s i ≡ n
+unfolding word
+word-two n s i p q = rw (p, q) (div-add-mod' n 256)
+
+-- of bytes it has 16 bits
+pub word-wide : (s : List ℕ) (i : ℕ) → ((j : ℕ) → getD s j 0 < 256) → word s i < 65536
+unfolding word
+word-wide s i h = omega (arith, h i, h (i + 1))
 
 -- ---- a field's length
 

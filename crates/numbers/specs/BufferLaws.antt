@@ -61,6 +61,9 @@ module _ (bytes out : List ℕ) where
 pub tail-part : (l : List ℕ) (at : ℕ) → take (length l - at) (drop at l) ≡ drop at l
 tail-part l at = take-all (length l - at) (drop at l) (rw length-drop (omega arith))
 
+pub tail-length : (l : List ℕ) (at : ℕ) → length (take (length l - at) (drop at l)) ≡ length l - at
+tail-length l at = ap length (tail-part l at) ∙ (simp length-drop (omega arith))
+
 pub tail-back : (l part : List ℕ) (at : ℕ) → at ≤ length l → putMid at (length l - at) l part ≡ take at l ++ part
 tail-back l part at h =
     let e : drop (length l - at) (drop at l) ≡ [] = drop-of-length-le (drop at l) {i = length l - at} (rw length-drop (omega arith)) in

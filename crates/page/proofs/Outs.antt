@@ -44,4 +44,4 @@ module _ (rows persistent : ℕ) (rectangles out : List ℕ) (n : ℕ) (e : n �
 
         pub done-out : (o : Outcome) → o ≡ pageAnswer (bad 0 0) (joined (fillsOf rows rectangles)) (length (plans (fillsOf rows rectangles))) out
             → o ≡ pageCall rows persistent rectangles out
-        done-out o f = f ∙ sym (page-writes rows persistent rectangles out (accepted-zeros rows persistent rectangles out none))
+        done-out o f = f ∙ sym (page-writes rows persistent rectangles out (accepted-zeros rows persistent rectangles out (accepted rows persistent rectangles out none)))

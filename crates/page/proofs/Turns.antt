@@ -1,17 +1,17 @@
 -- One turn of each loop, in the terms that the code has: s is what is left of the rectangles. Assumes nothing.
 use mathlib.Core.Path.{_≡_, refl, sym, ap, ap₂, _∙_}
-use mathlib.Core.Bool.{Bool, true, false}
+use mathlib.Core.Bool.{true}
 use mathlib.Core.List.{List, [], _∷_}
 use mathlib.Core.Logic.{_≢_}
 use Prim.Native.Nat.{ℕ, _+_, _-_, _≤_, _<_}
 use native.Mathlib.Omega.{arith}
 use lib.Dec.{eqb}
-use lib.ListN.{length, take, drop, length-drop}
-use lib.Seq.{take-all, sets, length-sets}
+use lib.ListN.{length, take, drop}
+use lib.Seq.{sets, length-sets}
 use borrow.Rule.Slice.PartMut.{putMid}
 use Rattle.numbers.specs.Refuse.{refuse}
 use Rattle.numbers.specs.Buffer.{over}
-use Rattle.numbers.specs.BufferLaws.{sets-append, over-sets, tail-part, tail-stored}
+use Rattle.numbers.specs.BufferLaws.{sets-append, over-sets, tail-part, tail-length, tail-stored}
 use Rattle.list.specs.Meaning.{bad}
 use Rattle.planner.specs.declared.Filled.{Filled}
 use Rattle.planner.specs.Fill.{Fill, plan}
@@ -19,19 +19,19 @@ use Rattle.planner.specs.Calls.{askedRefusal, listOf, Outcome, outcome, fillCal
 use Rattle.planner.specs.CallLaws.{asked-plain, filled, fill-fits}
 use Rattle.page.specs.declared.Room.{Room}
 use Rattle.page.specs.Rectangles.{rectangleOf, Item, Names, body, whole, itemOf, items, fillOf}
-use Rattle.page.specs.RectangleLaws.{whole-length, item-whole, items-nil, items-whole, items-not}
+use Rattle.page.specs.RectangleLaws.{whole-length, item-whole, items-nil, items-whole, items-begin}
 use Rattle.page.specs.Rooms.{takes, roomNumber}
-use Rattle.page.specs.Calls.{fills, fillsOf, plans, joined, numberOf, verdict, judged, outcome as paged, pageAnswer}
-use Rattle.page.specs.CallLaws.{plans-none, joined-none, joined-more, joined-length, plans-length, measured, measured-number, measured-length, number-not, accepted-head, accepted-tail, accepted-any, judged-nil, judged-bad, judged-good}
+use Rattle.page.specs.Calls.{fills, fillsOf, plans, joined, numberOf, verdict, judged, measured, outcome as paged, pageAnswer}
+use Rattle.page.specs.CallLaws.{plans-none, joined-none, joined-more, joined-length, plans-length, measured-number, measured-length, number-whole, accepted-head, accepted-tail, accepted-any, judged-nil, judged-bad, judged-good}
 
 -- ---- what follows the field
 
 module _ (s : List ℕ) where
   pub rest-part : take (length s - 15) (drop 15 s) ≡ drop 15 s
-  rest-part = take-all (length s - 15) (drop 15 s) (rw length-drop (omega arith))
+  rest-part = tail-part s 15
 
   rest-length : length (take (length s - 15) (drop 15 s)) ≡ length s - 15
-  rest-length = ap length rest-part ∙ (simp length-drop (omega arith))
+  rest-length = tail-length s 15
 
   -- is shorter
   pub rest-less : 15 ≤ length s → length (take (length s - 15) (drop 15 s)) < length s
@@ -51,24 +51,14 @@ module _ (rows : ℕ) (least : 1 ≤ rows) (most : rows ≤ 512) (persistent : �
     number-is = ap (λ (x : Filled). x .number) e ∙ measured-number rows least most (itemOf s)
 
     pub turn-bad : length s ≢ 0 → k .number ≢ 0 → (at : ℕ) → bad (k .number) at ≡ judged rows persistent left at (items s)
-    turn-bad p h at = go (whole s) refl
-      where
-        refused : (l : List Item) → items s ≡ itemOf s ∷ l → bad (k .number) at ≡ judged rows persistent left at (items s)
-        refused l q =
-            ap (λ (x : ℕ). bad x at) number-is
-            ∙ sym (ap (judged rows persistent left at) q ∙ judged-bad rows persistent left at (itemOf s) l (λ z. h (number-is ∙ z)))
-
-        go : (t : Bool) → whole s ≡ t → bad (k .number) at ≡ judged rows persistent left at (items s)
-        go true q = refused _ (items-whole s q)
-        go false q = refused [] (items-not s (omega arith) q)
+    turn-bad p h at =
+        let b = items-begin s (omega arith) in
+        ap (λ (x : ℕ). bad x at) number-is
+        ∙ sym (ap (judged rows persistent left at) (b .1) ∙ judged-bad rows persistent left at (itemOf s) (b .0) (λ z. h (number-is ∙ z)))
 
     module _ (z : k .number ≡ 0) where
       good : whole s ≡ true
-      good = go (whole s) refl
-        where
-          go : (t : Bool) → whole s ≡ t → t ≡ true
-          go true q = refl
-          go false q = absurd (omega (arith, number-not rows s q, number-is, z))
+      good = number-whole rows s (sym number-is ∙ z)
 
       pub turn-fits : 15 ≤ length s
       turn-fits = whole-length s good
@@ -93,21 +83,12 @@ module _ (rows : ℕ) (least : 1 ≤ rows) (most : rows ≤ 512) (persistent : �
 
 module _ (rows : ℕ) (least : 1 ≤ rows) (most : rows ≤ 512) (s : List ℕ) (p : 0 < length s) (z : verdict rows 0 (items s) .number ≡ 0) where
   head-good : numberOf rows (itemOf s) ≡ 0
-  head-good = go (whole s) refl
-    where
-      named : (l : List Item) → items s ≡ itemOf s ∷ l → numberOf rows (itemOf s) ≡ 0
-      named l q = accepted-head rows 0 (itemOf s) l (sym (ap (λ (x : List Item). verdict rows 0 x .number) q) ∙ z)
-
-      go : (t : Bool) → whole s ≡ t → numberOf rows (itemOf s) ≡ 0
-      go true q = named _ (items-whole s q)
-      go false q = named [] (items-not s p q)
+  head-good =
+      let b = items-begin s p in
+      accepted-head rows 0 (itemOf s) (b .0) (sym (ap (λ (x : List Item). verdict rows 0 x .number) (b .1)) ∙ z)
 
   head-whole : whole s ≡ true
-  head-whole = go (whole s) refl
-    where
-      go : (t : Bool) → whole s ≡ t → t ≡ true
-      go true q = refl
-      go false q = absurd (omega (arith, number-not rows s q, head-good))
+  head-whole = number-whole rows s head-good
 
   pub put-fits : 15 ≤ length s
   put-fits = whole-length s head-whole
@@ -141,7 +122,7 @@ module _ (rows : ℕ) (least : 1 ≤ rows) (most : rows ≤ 512) (s : List ℕ) 
     cycles-are = ap (λ (fs : List Fill). length (plans fs)) fills-are ∙ plans-length f (fillsOf rows (drop 15 s))
 
     left : length (take (length list - at) (drop at list)) ≡ length list - at
-    left = ap length (tail-part list at) ∙ (simp length-drop (omega arith))
+    left = tail-length list at
 
     done : outcome r part ≡ outcome (filled 0 (length (listOf f)) (length (plan f))) (over (listOf f) (take (length list - at) (drop at list)))
     done = e ∙ fill-fits f (take (length list - at) (drop at list)) asked (omega (arith, left, bytes-are))

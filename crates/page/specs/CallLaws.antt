@@ -16,13 +16,12 @@ use Rattle.numbers.specs.BufferLaws.{take-over}
 use Rattle.vram.specs.declared.Cycle.{Cycle}
 use Rattle.list.specs.declared.Bad.{Bad}
 use Rattle.list.specs.Meaning.{bad, firstBad, countOf}
-use Rattle.list.specs.JudgeLaws.{bad-first, bad-later, bad-zero}
+use Rattle.list.specs.JudgeLaws.{bad-first, bad-later, bad-zero, bad-never}
 use Rattle.list.specs.Encode.{encodeAll}
 use Rattle.list.specs.EncodeLaws.{count-encodeAll}
 use Rattle.list.specs.EncodedLaws.{encode-none, encode-append}
-use Rattle.planner.specs.declared.Filled.{Filled}
 use Rattle.planner.specs.Fill.{Fill, plan}
-use Rattle.planner.specs.Calls.{rectangleOk, listOf, measureCall}
+use Rattle.planner.specs.Calls.{rectangleOk, listOf}
 use Rattle.planner.specs.CallLaws.{asked-plain}
 use Rattle.planner.specs.ShapeLaws.{measure-number, measure-bytes}
 use Rattle.page.specs.declared.Room.{Room}
@@ -31,7 +30,7 @@ use Rattle.page.specs.Rectangles.{Item, Names, Unreadable, whole, itemOf
 use Rattle.page.specs.RectangleLaws.{item-not, items-nil}
 use Rattle.page.specs.Rooms.{takes, roomNumber}
 use Rattle.page.specs.RoomLaws.{takes-none, takes-more, room-short}
-use Rattle.page.specs.Calls.{fills, fillsOf, plans, joined, numberOf, verdict, judged, pageRefusal, Outcome, refused, outcome, pageAnswer, pageCall, listIn}
+use Rattle.page.specs.Calls.{fills, fillsOf, plans, joined, numberOf, verdict, judged, measured, pageRefusal, Outcome, refused, outcome, pageAnswer, pageCall, listIn}
 
 -- ---- the joined lists
 
@@ -63,11 +62,7 @@ joined-length f fs = ap length (joined-more f fs) ∙ length-append (listOf f) (
 pub plans-length : (f : Fill) (fs : List Fill) → length (plans (f ∷ fs)) ≡ length (plan f) + length (plans fs)
 plans-length f fs = ap length (plans-more f fs) ∙ length-append (plan f) (plans fs)
 
--- ---- what the code has of a field: 4, or what its fill answers where there is room enough
-
-unfoldable pub measured : ℕ → Item → Filled
-measured rows (Names r) = measureCall (fillOf rows r)
-measured rows Unreadable = record { number = 4; bytes = 0; cycles = 0 }
+-- ---- what is measured of a field
 
 module _ (rows : ℕ) (least : 1 ≤ rows) (most : rows ≤ 512) where
   pub measured-number : (i : Item) → measured rows i .number ≡ numberOf rows i
@@ -83,9 +78,17 @@ module _ (rows : ℕ) (least : 1 ≤ rows) (most : rows ≤ 512) where
       joined-length (fillOf rows r) (fills rows l) ∙ ap (λ (n : ℕ). n + length (joined (fills rows l))) (sym (measure-bytes (fillOf rows r) z))
   measured-length Unreadable z l = absurd (omega arith)
 
-pub number-not : (rows : ℕ) (s : List ℕ) → whole s ≡ false → numberOf rows (itemOf s) ≡ 4
+number-not : (rows : ℕ) (s : List ℕ) → whole s ≡ false → numberOf rows (itemOf s) ≡ 4
 unfolding numberOf
 number-not rows s h = rw (item-not s h)
+
+-- a field that is not refused is whole
+pub number-whole : (rows : ℕ) (s : List ℕ) → numberOf rows (itemOf s) ≡ 0 → whole s ≡ true
+number-whole rows s z = go (whole s) refl
+  where
+    go : (t : Bool) → whole s ≡ t → t ≡ true
+    go true q = refl
+    go false q = absurd (omega (arith, number-not rows s q, z))
 
 -- ---- the verdict, field by field
 
@@ -212,11 +215,10 @@ module _ (rows persistent : ℕ) (rectangles out : List ℕ) where
       let d = refuse-zero (leb n (length out)) 14 0 (c .1) in
       record { least = r .0; most = r .1; fields = b .0; plain = eqb-true persistent 0 (c .0); room = leb-true n (length out) (d .0) }
 
-  -- and then its verdict is zeros
-  pub accepted-zeros : v .number ≡ 0 → v ≡ bad 0 0
+  -- and back: it is then answered with 0 and 0
+  pub accepted-zeros : Accepted → v ≡ bad 0 0
   unfolding pageRefusal
-  accepted-zeros h =
-      let a = accepted h in
+  accepted-zeros a =
       let n = length (joined (fillsOf rows rectangles)) in
       bad-later (bad (refuse (leb 1 rows && leb rows 512) 2 0) 0) _ (rw (le-leb 1 rows (a .least), le-leb rows 512 (a .most)))
       ∙ bad-later (verdict rows 0 (items rectangles)) _ (a .fields)
@@ -227,7 +229,7 @@ module _ (rows persistent : ℕ) (rectangles out : List ℕ) where
   module _ (z : pageCall rows persistent rectangles out .answer .number ≡ 0) where
     pub page-done : pageCall rows persistent rectangles out
         ≡ pageAnswer (bad 0 0) (joined (fillsOf rows rectangles)) (length (plans (fillsOf rows rectangles))) out
-    page-done = page-writes (accepted-zeros (sym page-number ∙ z))
+    page-done = page-writes (accepted-zeros (accepted (sym page-number ∙ z)))
 
     -- the bytes written are the joined lists
     pub page-list : listIn (pageCall rows persistent rectangles out) ≡ joined (fillsOf rows rectangles)
@@ -286,14 +288,6 @@ fields-13 rows at (i ∷ l) = go (eqb (numberOf rows i) 0) (fields-13 rows (at +
     go true ih = ih
     go false ih = item-13 rows i
 
-first-13 : (v later : Bad) → v .number ≢ 13 → later .number ≢ 13 → firstBad v later .number ≢ 13
-unfolding firstBad
-first-13 v later p q = go (eqb (v .number) 0)
-  where
-    go : (t : Bool) → cond t later v .number ≢ 13
-    go true = q
-    go false = p
-
 last-13 : (t : Bool) (n : ℕ) → n ≢ 12 → refuse t (suc n) 0 ≢ 13
 last-13 true n k h = omega arith
 last-13 false n k h = k (omega arith)
@@ -302,8 +296,8 @@ pub page-13 : (rows : ℕ) (rectangles out : List ℕ) → pageCall rows 0 recta
 unfolding pageRefusal
 page-13 rows rectangles out z =
     let n = length (joined (fillsOf rows rectangles)) in
-    first-13 (bad (refuse (leb 1 rows && leb rows 512) 2 0) 0) (firstBad (verdict rows 0 (items rectangles)) (bad (refuse (leb n (length out)) 15 0) 0))
+    bad-never (bad (refuse (leb 1 rows && leb rows 512) 2 0) 0) (firstBad (verdict rows 0 (items rectangles)) (bad (refuse (leb n (length out)) 15 0) 0)) 13
     (last-13 (leb 1 rows && leb rows 512) 1 (λ h. omega arith))
-    (first-13 (verdict rows 0 (items rectangles)) (bad (refuse (leb n (length out)) 15 0) 0) (fields-13 rows 0 (items rectangles))
+    (bad-never (verdict rows 0 (items rectangles)) (bad (refuse (leb n (length out)) 15 0) 0) 13 (fields-13 rows 0 (items rectangles))
     (last-13 (leb n (length out)) 14 (λ h. omega arith)))
     (sym (page-number rows 0 rectangles out) ∙ z)

@@ -11,7 +11,8 @@ use Rattle.list.specs.declared.Bad.{Bad}
 use Rattle.list.specs.Meaning.{bad, firstBad}
 use Rattle.list.specs.Encode.{encodeAll}
 use Rattle.planner.specs.Fill.{Fill, plan}
-use Rattle.planner.specs.Calls.{rectangleOk}
+use Rattle.planner.specs.declared.Filled.{Filled}
+use Rattle.planner.specs.Calls.{rectangleOk, measureCall}
 use Rattle.page.specs.declared.Paged.{Paged}
 use Rattle.page.specs.declared.Room.{Room}
 use Rattle.page.specs.Rooms.{takes, roomNumber}
@@ -58,6 +59,11 @@ pageRefusal rows persistent rectangles room =
 unfoldable pub judged : ℕ → ℕ → Room → ℕ → List Item → Bad
 judged rows persistent room at l =
     firstBad (verdict rows at l) (bad (refuse (eqb persistent 0) 13 (roomNumber (takes room (length (joined (fills rows l)))))) 0)
+
+-- what the code has of a field: 4, or what its fill answers where there is room enough
+unfoldable pub measured : ℕ → Item → Filled
+measured rows (Names r) = measureCall (fillOf rows r)
+measured rows Unreadable = record { number = 4; bytes = 0; cycles = 0 }
 
 -- ---- the call
 

@@ -6,8 +6,7 @@ use mathlib.Core.List.{List, [], _∷_, _++_, List·Memᴰ, List·Memᴰ·not-ni
 use mathlib.Core.Logic.{⊎-elim}
 use native.Mathlib.Omega.{arith}
 use lib.ListN.{getD, take, drop}
-use Rattle.list.specs.Tags.{word}
-use Rattle.list.specs.SplitLaws.{split-from}
+use Rattle.list.specs.SplitLaws.{word-wide, split-from}
 use Rattle.planner.specs.Fill.{Fill}
 use Rattle.planner.specs.Calls.{askedRefusal}
 use Rattle.planner.specs.CallLaws.{asked-plain}
@@ -83,10 +82,6 @@ bytes-take zero s h i = omega arith
 bytes-take (suc n) [] h i = h i
 bytes-take (suc n) (x ∷ s) h zero = h 0
 bytes-take (suc n) (x ∷ s) h (suc i) = bytes-take n s (λ j. h (suc j)) i
-
-word-wide : (s : List ℕ) (i : ℕ) → Bytes s → word s i < 65536
-unfolding word
-word-wide s i h = omega (arith, h i, h (i + 1))
 
 abbrev WideItem : Item → Type 0
 WideItem (Names r) = (r .mask < 65536) × (r .colour < 65536)

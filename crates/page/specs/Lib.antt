@@ -18,7 +18,11 @@ pub mod Each
 pub mod OneByOne
 -- what it paints, and demand 3 for each part
 pub mod PagePaints
+-- a point of the running
+pub mod Stage
 -- bits that some rectangles leave alone
 pub mod SparedLaws
+-- of the points of the running
+pub mod StageLaws
 -- cycle by cycle: marks first
 pub mod Stages

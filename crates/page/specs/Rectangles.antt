@@ -1,10 +1,11 @@
 -- The rectangles of a page: fields of tag 8 and length 12, six numbers of two bytes each. Change request M-103. Assumes nothing.
 use Prim.Native.Nat.{ℕ}
 use mathlib.Core.Bool.{Bool, _&&_, cond}
-use mathlib.Core.List.{List}
+use mathlib.Core.List.{List, [], _∷_, _++_}
 use lib.Dec.{eqb}
 use lib.ListN.{take, drop}
 use Rattle.list.specs.Tags.{byte, word}
+use Rattle.list.specs.Encode.{two}
 use Rattle.list.specs.Splits.{sized, split}
 use Rattle.planner.specs.Fill.{Fill, fill}
 use Rattle.page.specs.declared.Rectangle.{Rectangle}
@@ -41,6 +42,16 @@ itemOf s = cond (whole s) (Names (rectangleOf (body s))) Unreadable
 
 abbrev pub items : List ℕ → List Item
 items s = split itemOf whole (λ b. 14) 0 s
+
+-- ---- rectangles as bytes, as a host names them
+
+unfoldable pub rectangleBytes : Rectangle → List ℕ
+rectangleBytes r =
+    8 ∷ two 12 (two (r .«first_row») (two (r .«end_row») (two (r .«first_column») (two (r .«end_column») (two (r .mask) (two (r .colour) []))))))
+
+unfoldable pub pageBytes : List Rectangle → List ℕ
+pageBytes [] = []
+pageBytes (r ∷ rs) = rectangleBytes r ++ pageBytes rs
 
 -- ---- the fill of a rectangle, with the rows fitted and the mask not persistent
 

@@ -1,59 +1,51 @@
 -- Laws of bits that some rectangles leave alone. Assumes nothing.
 use Prim.Native.Nat.{ℕ, _<_}
 use mathlib.Core.Path.{_≡_, refl, sym, _∙_, subst}
-use mathlib.Core.Bool.{Bool, true, false, _&&_, _||_, true≢false}
+use mathlib.Core.Bool.{Bool, true, false, _||_, true≢false}
 use mathlib.Core.List.{List, [], _∷_, _++_}
 use lib.ListN.{length, getD}
 use Rattle.words.specs.Bit.{bit}
-use Rattle.planner.specs.Fill.{Fill, inside}
+use Rattle.planner.specs.Fill.{Fill}
 use Rattle.planner.specs.Paint.{painted}
 use Rattle.planner.specs.PaintLaws.{painted-bit, painted-length}
 use Rattle.page.specs.PagePaints.{paintedAll}
-
--- a rectangle covers bit i of word a: the word lies in it, and its mask has the bit
-abbrev pub covers : Fill → ℕ → ℕ → Bool
-covers f a i = inside f a && bit (f .mask) i
-
--- one of some rectangles does
-unfoldable pub coveredBy : List Fill → ℕ → ℕ → Bool
-coveredBy [] a i = false
-coveredBy (f ∷ fs) a i = covers f a i || coveredBy fs a i
+use Rattle.page.specs.Stage.{paintsBit, paintedBy}
 
 module _ (a i : ℕ) where
   neither : (t u : Bool) → (t || u) ≡ false → (t ≡ false) × (u ≡ false)
   neither true u e = absurd (true≢false e)
   neither false u e = (refl, e)
 
-  module _ (f : Fill) (fs : List Fill) (e : coveredBy (f ∷ fs) a i ≡ false) where
-    pub spared-first : covers f a i ≡ false
-    unfolding coveredBy
-    spared-first = neither (covers f a i) (coveredBy fs a i) e .0
+  module _ (f : Fill) (fs : List Fill) (e : paintedBy (f ∷ fs) a i ≡ false) where
+    pub spared-first : paintsBit f a i ≡ false
+    unfolding paintedBy
+    spared-first = neither (paintsBit f a i) (paintedBy fs a i) e .0
 
-    pub spared-later : coveredBy fs a i ≡ false
-    unfolding coveredBy
-    spared-later = neither (covers f a i) (coveredBy fs a i) e .1
+    pub spared-later : paintedBy fs a i ≡ false
+    unfolding paintedBy
+    spared-later = neither (paintsBit f a i) (paintedBy fs a i) e .1
 
-  pub spared-left : (fs gs : List Fill) → coveredBy (fs ++ gs) a i ≡ false → coveredBy fs a i ≡ false
-  unfolding coveredBy
+  pub spared-left : (fs gs : List Fill) → paintedBy (fs ++ gs) a i ≡ false → paintedBy fs a i ≡ false
+  unfolding paintedBy
   spared-left [] gs e = refl
   spared-left (f ∷ fs) gs e =
-      let n = neither (covers f a i) (coveredBy (fs ++ gs) a i) e in
+      let n = neither (paintsBit f a i) (paintedBy (fs ++ gs) a i) e in
       rw (n .0) (spared-left fs gs (n .1))
 
-  pub spared-right : (fs gs : List Fill) → coveredBy (fs ++ gs) a i ≡ false → coveredBy gs a i ≡ false
-  unfolding coveredBy
+  pub spared-right : (fs gs : List Fill) → paintedBy (fs ++ gs) a i ≡ false → paintedBy gs a i ≡ false
+  unfolding paintedBy
   spared-right [] gs e = e
-  spared-right (f ∷ fs) gs e = spared-right fs gs (neither (covers f a i) (coveredBy (fs ++ gs) a i) e .1)
+  spared-right (f ∷ fs) gs e = spared-right fs gs (neither (paintsBit f a i) (paintedBy (fs ++ gs) a i) e .1)
 
-  -- a rectangle that covers the bit makes it its colour's, and one that does not leaves it
+  -- a rectangle that paintsBit the bit makes it its colour's, and one that does not leaves it
   module _ (f : Fill) (m : List ℕ) (h : a < length m) (l : i < 16) where
-    pub painted-covered : covers f a i ≡ true → bit (getD (painted f m) a 0) i ≡ bit (f .colour) i
+    pub painted-covered : paintsBit f a i ≡ true → bit (getD (painted f m) a 0) i ≡ bit (f .colour) i
     painted-covered e = painted-bit f m a i h l ∙ rw e
 
-    pub painted-spared : covers f a i ≡ false → bit (getD (painted f m) a 0) i ≡ bit (getD m a 0) i
+    pub painted-spared : paintsBit f a i ≡ false → bit (getD (painted f m) a 0) i ≡ bit (getD m a 0) i
     painted-spared e = painted-bit f m a i h l ∙ rw e
 
-  pub all-spared : (fs : List Fill) (m : List ℕ) → a < length m → i < 16 → coveredBy fs a i ≡ false
+  pub all-spared : (fs : List Fill) (m : List ℕ) → a < length m → i < 16 → paintedBy fs a i ≡ false
       → bit (getD (paintedAll fs m) a 0) i ≡ bit (getD m a 0) i
   unfolding paintedAll
   all-spared [] m h l e = refl

@@ -1,5 +1,5 @@
 // A page of fills at once: change request M-103. A list of rectangles is answered with the lists of their fills, joined.
-// The panel's host program calls `linkshoar_page`. It checks and measures all first and writes after, straight into the lent buffer.
+// The panel's host program calls `linkshoar_page`, which checks and measures all first and writes after, straight into the lent buffer.
 ghost use mathlib.Core.Path.{_≡_};
 ghost use Rattle.page.specs.Calls.{refused, outcome, pageCall};
 
@@ -12,7 +12,7 @@ use lists::put_fills;
 use numbers::refuse;
 
 // A rectangle with its bit mask and colour; the ends are not included.
-pub struct Rectangle {
+pub(crate) struct Rectangle {
     pub first_row: u16,
     pub end_row: u16,
     pub first_column: u16,
@@ -22,7 +22,7 @@ pub struct Rectangle {
 }
 
 // What is left of the buffer after some lists, or that they pass it.
-pub enum Room {
+pub(crate) enum Room {
     Left(usize),
     Passed,
 }

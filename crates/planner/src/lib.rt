@@ -192,15 +192,7 @@ pub extern "C" fn linkshoar_fill(
             bytes: 0,
             cycles: 0,
         },
-        Shape::Words(_) => put_words(
-            list,
-            first_row,
-            end_row - first_row,
-            first_column,
-            end_column - first_column,
-            colour,
-            mask,
-        ),
+        // Before words: in this order a page, which has this in line, takes fewer instructions.
         Shape::Blocks(_) => put_blocks(
             list,
             first_row,
@@ -209,6 +201,15 @@ pub extern "C" fn linkshoar_fill(
             across(first_column, end_column),
             first_column,
             end_column,
+            colour,
+            mask,
+        ),
+        Shape::Words(_) => put_words(
+            list,
+            first_row,
+            end_row - first_row,
+            first_column,
+            end_column - first_column,
             colour,
             mask,
         ),

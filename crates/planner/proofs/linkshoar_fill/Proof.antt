@@ -22,44 +22,13 @@ enum-told c = search needs
 enum-told-2 : tie.Need-enum-told-2
 enum-told-2 c = search needs
 
-sub-put-words : tie.Need-sub-put-words
-sub-put-words c =
-    let m = c .before .before .before in
-    let b = m .before .before in
-    let a = b .args in
-    let f = fill (a .rows) (a .first-row) (a .end-row) (a .first-column) (a .end-column) (a .mask) (a .colour) (a .persistent) in
-    let s = says-any (a .rows) (a .first-row) (a .end-row) (a .first-column) (a .end-column) (a .mask) (a .colour) (a .persistent) _ _ (m .shape-of .ensures) (c .before .enum-told2 .given .1) in
-    asked-sound f (s .0) .row-order
-
-sub-put-words-2 : tie.Need-sub-put-words-2
-sub-put-words-2 c =
-    let m = c .before .before .before in
-    let b = m .before .before in
-    let a = b .args in
-    let f = fill (a .rows) (a .first-row) (a .end-row) (a .first-column) (a .end-column) (a .mask) (a .colour) (a .persistent) in
-    let s = says-any (a .rows) (a .first-row) (a .end-row) (a .first-column) (a .end-column) (a .mask) (a .colour) (a .persistent) _ _ (m .shape-of .ensures) (c .before .enum-told2 .given .1) in
-    asked-sound f (s .0) .column-order
-
-put-words-requires : tie.Need-put-words-requires
-put-words-requires c κs =
-    let m = c .before .before .before in
-    let b = m .before .before in
-    let a = b .args in
-    let f = fill (a .rows) (a .first-row) (a .end-row) (a .first-column) (a .end-column) (a .mask) (a .colour) (a .persistent) in
-    let s = says-any (a .rows) (a .first-row) (a .end-row) (a .first-column) (a .end-column) (a .mask) (a .colour) (a .persistent) _ _ (m .shape-of .ensures) (c .before .enum-told2 .given .1) in
-    let o = asked-sound f (s .0) in
-    omega (arith, o .row-order, o .row-end, o .rows-most, o .column-order, o .column-end)
-
-enum-told-3 : tie.Need-enum-told-3
-enum-told-3 c = search needs
-
 sub-put-blocks : tie.Need-sub-put-blocks
 sub-put-blocks c =
     let m = c .before .before .before in
     let b = m .before .before in
     let a = b .args in
     let f = fill (a .rows) (a .first-row) (a .end-row) (a .first-column) (a .end-column) (a .mask) (a .colour) (a .persistent) in
-    let s = says-any (a .rows) (a .first-row) (a .end-row) (a .first-column) (a .end-column) (a .mask) (a .colour) (a .persistent) _ _ (m .shape-of .ensures) (c .before .enum-told3 .given .1) in
+    let s = says-any (a .rows) (a .first-row) (a .end-row) (a .first-column) (a .end-column) (a .mask) (a .colour) (a .persistent) _ _ (m .shape-of .ensures) (c .before .enum-told2 .given .1) in
     asked-sound f (s .0) .row-order
 
 across-requires : tie.Need-across-requires
@@ -68,7 +37,7 @@ across-requires c κs =
     let b = m .before .before in
     let a = b .args in
     let f = fill (a .rows) (a .first-row) (a .end-row) (a .first-column) (a .end-column) (a .mask) (a .colour) (a .persistent) in
-    let s = says-any (a .rows) (a .first-row) (a .end-row) (a .first-column) (a .end-column) (a .mask) (a .colour) (a .persistent) _ _ (m .shape-of .ensures) (c .before .enum-told3 .given .1) in
+    let s = says-any (a .rows) (a .first-row) (a .end-row) (a .first-column) (a .end-column) (a .mask) (a .colour) (a .persistent) _ _ (m .shape-of .ensures) (c .before .enum-told2 .given .1) in
     let o = asked-sound f (s .0) in
     (o .column-order, o .column-end)
 
@@ -78,9 +47,40 @@ put-blocks-requires c κs =
     let b = m .before .before in
     let a = b .args in
     let f = fill (a .rows) (a .first-row) (a .end-row) (a .first-column) (a .end-column) (a .mask) (a .colour) (a .persistent) in
-    let s = says-any (a .rows) (a .first-row) (a .end-row) (a .first-column) (a .end-column) (a .mask) (a .colour) (a .persistent) _ _ (m .shape-of .ensures) (c .before .before .enum-told3 .given .1) in
+    let s = says-any (a .rows) (a .first-row) (a .end-row) (a .first-column) (a .end-column) (a .mask) (a .colour) (a .persistent) _ _ (m .shape-of .ensures) (c .before .before .enum-told2 .given .1) in
     let o = asked-sound f (s .0) in
     omega (arith, o .row-order, o .row-end, o .rows-most, o .column-end, some-columns f (a .list .now) (s .0) (s .1), c .across .ensures .0)
+
+enum-told-3 : tie.Need-enum-told-3
+enum-told-3 c = search needs
+
+sub-put-words : tie.Need-sub-put-words
+sub-put-words c =
+    let m = c .before .before .before in
+    let b = m .before .before in
+    let a = b .args in
+    let f = fill (a .rows) (a .first-row) (a .end-row) (a .first-column) (a .end-column) (a .mask) (a .colour) (a .persistent) in
+    let s = says-any (a .rows) (a .first-row) (a .end-row) (a .first-column) (a .end-column) (a .mask) (a .colour) (a .persistent) _ _ (m .shape-of .ensures) (c .before .enum-told3 .given .1) in
+    asked-sound f (s .0) .row-order
+
+sub-put-words-2 : tie.Need-sub-put-words-2
+sub-put-words-2 c =
+    let m = c .before .before .before in
+    let b = m .before .before in
+    let a = b .args in
+    let f = fill (a .rows) (a .first-row) (a .end-row) (a .first-column) (a .end-column) (a .mask) (a .colour) (a .persistent) in
+    let s = says-any (a .rows) (a .first-row) (a .end-row) (a .first-column) (a .end-column) (a .mask) (a .colour) (a .persistent) _ _ (m .shape-of .ensures) (c .before .enum-told3 .given .1) in
+    asked-sound f (s .0) .column-order
+
+put-words-requires : tie.Need-put-words-requires
+put-words-requires c κs =
+    let m = c .before .before .before in
+    let b = m .before .before in
+    let a = b .args in
+    let f = fill (a .rows) (a .first-row) (a .end-row) (a .first-column) (a .end-column) (a .mask) (a .colour) (a .persistent) in
+    let s = says-any (a .rows) (a .first-row) (a .end-row) (a .first-column) (a .end-column) (a .mask) (a .colour) (a .persistent) _ _ (m .shape-of .ensures) (c .before .enum-told3 .given .1) in
+    let o = asked-sound f (s .0) in
+    omega (arith, o .row-order, o .row-end, o .rows-most, o .column-order, o .column-end)
 
 returns : tie.Need-returns
 returns c =
@@ -107,26 +107,26 @@ same-length c = search needs
 
 returns-3 : tie.Need-returns-3
 returns-3 c =
-    let m = c .before .before .before .before .before .before in
+    let m = c .before .before .before .before .before .before .before in
     let b = m .before .before in
     let a = b .args in
     let f = fill (a .rows) (a .first-row) (a .end-row) (a .first-column) (a .end-column) (a .mask) (a .colour) (a .persistent) in
-    let s = says-any (a .rows) (a .first-row) (a .end-row) (a .first-column) (a .end-column) (a .mask) (a .colour) (a .persistent) _ _ (m .shape-of .ensures) (c .before .before .before .before .enum-told2 .given .1) in
+    let s = says-any (a .rows) (a .first-row) (a .end-row) (a .first-column) (a .end-column) (a .mask) (a .colour) (a .persistent) _ _ (m .shape-of .ensures) (c .before .before .before .before .before .enum-told2 .given .1) in
     with-demand f (a .list .now) (b .fits .mask .fits) (b .fits .colour .fits)
-    (c .before .before .put-words .ensures ∙ fill-words f (a .list .now) (s .0) (s .1) (s .3))
+    (c .before .before .put-blocks .ensures ∙ fill-blocks f (a .list .now) (s .0) (s .1) (s .3) _ (c .before .before .before .across .ensures .0))
 
 same-length-2 : tie.Need-same-length-2
 same-length-2 c = search needs
 
 returns-4 : tie.Need-returns-4
 returns-4 c =
-    let m = c .before .before .before .before .before .before .before in
+    let m = c .before .before .before .before .before .before in
     let b = m .before .before in
     let a = b .args in
     let f = fill (a .rows) (a .first-row) (a .end-row) (a .first-column) (a .end-column) (a .mask) (a .colour) (a .persistent) in
-    let s = says-any (a .rows) (a .first-row) (a .end-row) (a .first-column) (a .end-column) (a .mask) (a .colour) (a .persistent) _ _ (m .shape-of .ensures) (c .before .before .before .before .before .enum-told3 .given .1) in
+    let s = says-any (a .rows) (a .first-row) (a .end-row) (a .first-column) (a .end-column) (a .mask) (a .colour) (a .persistent) _ _ (m .shape-of .ensures) (c .before .before .before .before .enum-told3 .given .1) in
     with-demand f (a .list .now) (b .fits .mask .fits) (b .fits .colour .fits)
-    (c .before .before .put-blocks .ensures ∙ fill-blocks f (a .list .now) (s .0) (s .1) (s .3) _ (c .before .before .before .across .ensures .0))
+    (c .before .before .put-words .ensures ∙ fill-words f (a .list .now) (s .0) (s .1) (s .3))
 
 pub linkshoar-fill-spec : {M : Type 1} → statement M
 linkshoar-fill-spec =
@@ -136,13 +136,13 @@ linkshoar-fill-spec =
     enum-known-shape
     enum-told
     enum-told-2
-    sub-put-words
-    sub-put-words-2
-    put-words-requires
-    enum-told-3
     sub-put-blocks
     across-requires
     put-blocks-requires
+    enum-told-3
+    sub-put-words
+    sub-put-words-2
+    put-words-requires
     returns
     returns-2
     same-length

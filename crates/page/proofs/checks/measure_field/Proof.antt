@@ -6,7 +6,7 @@ use Rattle.planner.specs.ShapeLaws.{measure-any}
 use Rattle.page.specs.declared.Rectangle.{Rectangle}
 use Rattle.page.specs.Rectangles.{fillOf}
 use Rattle.page.specs.RectangleLaws.{whole-length, item-whole, item-not}
-use Rattle.page.specs.CallLaws.{measured}
+use Rattle.page.specs.Calls.{measured}
 use borrow.Author.Needs.{needs}
 use Rattle.page.proofs.checks.measure_field.Statement.{statement}
 use Rattle.page.proofs.checks.measure_field.Tie as tie
