@@ -354,7 +354,9 @@ static inline size_t linkshoar_put_stop_points(uint8_t *at, uint8_t length)
  *
  * A page is rectangles, one after the other, each a field as in a list: tag 8, length 12, and six numbers of two bytes: first row, end row,
  * first column, end column (ends not included), mask, colour. They are painted in this order, so the last is on top, and each whole before
- * the next is begun: name a result's mark before the result, and no point of the running shows the new result without its mark. */
+ * the next is begun: name a result's mark before the result, and no point of the running shows the new result without its mark. Where an old
+ * result stands there and its mark changes too, name three: the old result's clearing, through mask 00FF, then the mark, then the result;
+ * else the old result would stand under the new mark for a while. */
 enum { LINKSHOAR_TAG_RECTANGLE = 8 };
 
 /* 15 bytes: a rectangle. It writes what it is given: linkshoar_page judges. An argument is as wide as its place, and C cuts a wider one. */

@@ -270,13 +270,13 @@ module _ (rows : ℕ) (out : List ℕ) (least : 1 ≤ rows) (most : rows ≤ 512
 
 -- ---- a page that says it is not persistent is not refused with 13
 
+last-13 : (t : Bool) (n : ℕ) → n ≢ 12 → refuse t (suc n) 0 ≢ 13
+last-13 true n k h = omega arith
+last-13 false n k h = k (omega arith)
+
 item-13 : (rows : ℕ) (i : Item) → numberOf rows i ≢ 13
 unfolding numberOf
-item-13 rows (Names r) = go (rectangleOk (fillOf rows r))
-  where
-    go : (t : Bool) → refuse t 12 0 ≢ 13
-    go true h = omega arith
-    go false h = omega arith
+item-13 rows (Names r) = last-13 (rectangleOk (fillOf rows r)) 11 (λ h. omega arith)
 item-13 rows Unreadable = λ h. omega arith
 
 fields-13 : (rows at : ℕ) (l : List Item) → verdict rows at l .number ≢ 13
@@ -287,10 +287,6 @@ fields-13 rows at (i ∷ l) = go (eqb (numberOf rows i) 0) (fields-13 rows (at +
     go : (t : Bool) → verdict rows (at + 15) l .number ≢ 13 → cond t (verdict rows (at + 15) l) (bad (numberOf rows i) at) .number ≢ 13
     go true ih = ih
     go false ih = item-13 rows i
-
-last-13 : (t : Bool) (n : ℕ) → n ≢ 12 → refuse t (suc n) 0 ≢ 13
-last-13 true n k h = omega arith
-last-13 false n k h = k (omega arith)
 
 pub page-13 : (rows : ℕ) (rectangles out : List ℕ) → pageCall rows 0 rectangles out .answer .number ≢ 13
 unfolding pageRefusal
