@@ -17,6 +17,7 @@ static const work *const works[WHICH] = {linkshoar_works, plain_o2_works, plain_
 
 uint16_t memory[WORDS], serial[256];
 uint8_t masked_blocks[13 * FIELDS], plain_blocks[13 * FIELDS], masked_words[13 * FIELDS], plain_words[13 * FIELDS], colours[6 * FIELDS];
+uint8_t marks[64], every_sixteenth[64]; /* MARKED of 512 */
 rectangle rectangles[RECTANGLES];
 uint8_t page[RECTANGLES * LINKSHOAR_RECTANGLE_BYTES];
 uint8_t screen[LINKSHOAR_LIST_BYTES], plan[LINKSHOAR_LIST_BYTES], table[768];
@@ -66,6 +67,8 @@ static void make_all(void)
         serial[i] = (uint16_t)(i % 3 == 0 ? i : i % 3 == 1 ? 256 * i + 1 : 0xFF00 + i); /* results, marks, results in reverse */
     for (unsigned i = 0; i < 768; i++)
         table[i] = (uint8_t)(i * 5);
+    for (unsigned i = 0; i < 64; i += 2)
+        every_sixteenth[i] = (uint8_t)(1u << i % 7);
 }
 
 /* ---- times */

@@ -127,6 +127,44 @@ linkshoar_ran linkshoar_list_run(linkshoar_vram state, uint16_t *memory, size_t 
     return r;
 }
 
+linkshoar_ran linkshoar_list_run_marked(linkshoar_vram state, uint16_t *memory, size_t words, uint16_t *serial, size_t serial_words,
+                                        uint8_t *marks, size_t marks_bytes, const uint8_t *list, size_t length)
+{
+    if (marks_bytes != 64 && !vram_bad(state) && words >= 512 && words <= 262144 && words % 512 == 0 && serial_words == 256) {
+        linkshoar_ran refused = {state, 18, 0};
+        return refused;
+    }
+    linkshoar_ran r = linkshoar_list_run(state, memory, words, serial, serial_words, list, length);
+    size_t end = r.number ? FAULT == 17 && marks_bytes == 64 ? r.place : 0 : length;
+    for (size_t at = 0; at < end; at += 3u + body_bytes[list[at]])
+        if (list[at] == 2 || (list[at] == 1 && FAULT != 16)) {
+            unsigned row = pair(list + at + 3);
+            marks[row / 8] |= (uint8_t)(1u << row % 8);
+        }
+    return r;
+}
+
+uint32_t linkshoar_marks_clear(uint8_t *marks, size_t marks_bytes)
+{
+    if (marks_bytes != 64)
+        return 18;
+    memset(marks, 0, 64);
+    return 0;
+}
+
+linkshoar_marked linkshoar_marks_next(const uint8_t *marks, size_t marks_bytes, uint32_t start)
+{
+    linkshoar_marked r = {marks_bytes != 64 ? 18 : start > 511 ? 5 : 0, 0, 0};
+    if (r.number)
+        return r;
+    for (uint32_t row = start + (FAULT == 18); row < 512; row++)
+        if (marks[row / 8] >> row % 8 & 1) {
+            r.found = 1, r.row = row;
+            break;
+        }
+    return r;
+}
+
 static uint8_t *put(uint8_t *at, unsigned tag, unsigned row, unsigned column, unsigned value, unsigned mask)
 {
     const uint8_t field[13] = {(uint8_t)tag, 0, 10, (uint8_t)(row >> 8), (uint8_t)row, (uint8_t)(column >> 8), (uint8_t)column, (uint8_t)(value >> 8),

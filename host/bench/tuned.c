@@ -157,8 +157,11 @@ static void write_block(uint16_t *block, uint64_t colours, uint64_t columns, uin
     memcpy(block, &old, 8);
 }
 
-linkshoar_ran linkshoar_list_run(linkshoar_vram state, uint16_t *memory, size_t words, uint16_t *serial, size_t serial_words,
-                                 const uint8_t *list, size_t length)
+#define INLINE static inline __attribute__((always_inline))
+
+/* A list, with marks where there are any: the compiler makes one of each. */
+INLINE linkshoar_ran run_list(linkshoar_vram state, uint16_t *memory, size_t words, uint16_t *serial, size_t serial_words, uint8_t *marks,
+                              size_t marks_bytes, const uint8_t *list, size_t length)
 {
     linkshoar_ran r = {state, 0, 0};
     if (vram_bad(state))
@@ -167,6 +170,8 @@ linkshoar_ran linkshoar_list_run(linkshoar_vram state, uint16_t *memory, size_t 
         r.number = 2;
     else if (serial_words != 256)
         r.number = 3;
+    else if (marks_bytes != 64)
+        r.number = 18;
     else if (length)
         r.number = check(list, length, (uint32_t)(words / 512), state.loaded, &r.place);
     if (r.number || !length)
@@ -176,7 +181,10 @@ linkshoar_ran linkshoar_list_run(linkshoar_vram state, uint16_t *memory, size_t 
     for (const uint8_t *f = list, *end = list + length; f != end;) {
         if (f[0] <= 2) {
             uint64_t b = eight(f + 5);
-            uint16_t *row = memory + 512 * two(f + 3);
+            unsigned named = two(f + 3);
+            uint16_t *row = memory + 512 * named;
+            if (marks && (FAULT != 16 || f[0] == 2))
+                marks[named / 8] |= (uint8_t)(1u << named % 8);
             unsigned column = (unsigned)(b >> 48), value = (uint16_t)(b >> 32), allow = covered[b & 3];
             if (b >> 24 & 1)
                 allow &= s.persistent ? s.mask : (unsigned)(b >> 8);
@@ -216,6 +224,48 @@ linkshoar_ran linkshoar_list_run(linkshoar_vram state, uint16_t *memory, size_t 
     return r;
 }
 
+linkshoar_ran linkshoar_list_run(linkshoar_vram state, uint16_t *memory, size_t words, uint16_t *serial, size_t serial_words,
+                                 const uint8_t *list, size_t length)
+{
+    return run_list(state, memory, words, serial, serial_words, NULL, 64, list, length);
+}
+
+linkshoar_ran linkshoar_list_run_marked(linkshoar_vram state, uint16_t *memory, size_t words, uint16_t *serial, size_t serial_words,
+                                        uint8_t *marks, size_t marks_bytes, const uint8_t *list, size_t length)
+{
+    linkshoar_ran r = run_list(state, memory, words, serial, serial_words, marks, marks_bytes, list, length);
+    if (FAULT == 17 && r.number > 3 && r.number != 18 && length && list[0] <= 2)
+        marks[0] |= 1;
+    return r;
+}
+
+uint32_t linkshoar_marks_clear(uint8_t *marks, size_t marks_bytes)
+{
+    if (marks_bytes != 64)
+        return 18;
+    memset(marks, 0, 64);
+    return 0;
+}
+
+/* Eight bytes at a time: the lowest bit that is set. */
+linkshoar_marked linkshoar_marks_next(const uint8_t *marks, size_t marks_bytes, uint32_t start)
+{
+    linkshoar_marked r = {marks_bytes != 64 ? 18 : start > 511 ? 5 : 0, 0, 0};
+    if (r.number)
+        return r;
+    start += FAULT == 18;
+    for (uint32_t k = start / 64, skipped = start % 64; k < 8; k++, skipped = 0) {
+        uint64_t bits;
+        memcpy(&bits, marks + 8 * k, 8);
+        bits &= ~UINT64_C(0) << skipped;
+        if (bits) {
+            r.found = 1, r.row = 64 * k + (uint32_t)__builtin_ctzll(bits);
+            return r;
+        }
+    }
+    return r;
+}
+
 /* ---- fills */
 
 /* A field by two stores: the first eight bytes, up to the value's high byte, over the start of the last eight. */
@@ -225,8 +275,6 @@ static inline uint8_t *put(uint8_t *at, uint64_t first, uint64_t last)
     put_eight(at, first);
     return at + 13;
 }
-
-#define INLINE static inline __attribute__((always_inline))
 
 /* What a rectangle that is not refused comes to. */
 typedef struct {

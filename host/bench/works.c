@@ -45,6 +45,34 @@ static void run_screen(void)
     run_list(screen, sizeof screen);
 }
 
+/* ---- lists with marks */
+
+static void run_marked(const uint8_t *list, size_t length)
+{
+    linkshoar_ran r = linkshoar_list_run_marked(ready(), memory, WORDS, serial, 256, marks, sizeof marks, list, length);
+    sink += r.number + r.state.colour;
+}
+
+static void mark_blocks(void)
+{
+    run_marked(masked_blocks, sizeof masked_blocks);
+}
+
+static void mark_words(void)
+{
+    run_marked(masked_words, sizeof masked_words);
+}
+
+/* A link's walk. */
+static void walk_marks(void)
+{
+    uint32_t sum = 0;
+    linkshoar_marked m = linkshoar_marks_next(every_sixteenth, 64, 0);
+    for (; m.found; m = linkshoar_marks_next(every_sixteenth, 64, m.row + 1))
+        sum += m.row;
+    sink += sum;
+}
+
 /* ---- fills */
 
 static void plan_columns(uint32_t first, uint32_t end)
@@ -156,6 +184,9 @@ const work linkshoar_works[WORKS] = {
     {"word write in a list, plain", run_plain_words, FIELDS},
     {"colour load in a list", run_colours, FIELDS},
     {"full-screen fill's list, a field", run_screen, 1 + 512 * 128},
+    {"block write in a list, with marks", mark_blocks, FIELDS},
+    {"word write in a list, with marks", mark_words, FIELDS},
+    {"walk from marked row to marked row", walk_marks, MARKED},
     {"planned block", plan_blocks, 1 + 512 * 128},
     {"planned word", plan_words, 1024},
     {"planned page, a cycle", plan_page, PAGE_CYCLES},

@@ -1,8 +1,9 @@
 /* A results page on a panel: a page of fills planned, its list run, rows transferred, shown through the palette, and written as a picture.
  *   demo PICTURE.png
  * Each result stands in the low byte of the words, its mark in the high byte: amber preliminary, green final. The palette is saved, lost and
- * written back first. Two preliminary results are rechecked and stand in reverse video. In the end the rerun of one has come: its line is
- * cleared and painted anew through mask 00FF, over its mark, which is still amber; the other waits, its old result still legible. */
+ * written back first. Two preliminary results are rechecked and stand in reverse video, and the whole screen is sent to the panel. In the end
+ * the rerun of one has come: its line is cleared and painted anew through mask 00FF, over its mark, which is still amber; the other waits,
+ * its old result still legible. Of that only the rows are sent that the rerun's list has marked. */
 #include "glyphs.h"
 #include "linkshoar.h"
 
@@ -19,10 +20,10 @@ enum { MOST_RECTANGLES = 2000, MOST_LIST = 2 * LINKSHOAR_LIST_BYTES };
 
 static uint16_t memory[ROWS * COLUMNS], serial[LINKSHOAR_SERIAL_WORDS];
 static uint8_t table[LINKSHOAR_TABLE_BYTES], list[MOST_LIST], picture[ROWS][COLUMNS][3];
-static uint8_t rectangles[MOST_RECTANGLES * LINKSHOAR_RECTANGLE_BYTES];
+static uint8_t rectangles[MOST_RECTANGLES * LINKSHOAR_RECTANGLE_BYTES], marks[LINKSHOAR_MARKS_BYTES];
 static size_t named; /* bytes of rectangles that are to be drawn */
 static linkshoar_vram state;
-static unsigned long fills, calls, cycles, words_alone;
+static unsigned long fills, calls, cycles, words_alone, rows_sent;
 
 static void must(uint32_t number, const char *what)
 {
@@ -49,7 +50,8 @@ static void draw(void)
 {
     linkshoar_paged plan = linkshoar_page(ROWS, state.persistent, rectangles, named, list, sizeof list);
     must(plan.number, "page");
-    linkshoar_ran ran = linkshoar_list_run(state, memory, ROWS * COLUMNS, serial, LINKSHOAR_SERIAL_WORDS, list, plan.bytes);
+    linkshoar_ran ran = linkshoar_list_run_marked(state, memory, ROWS * COLUMNS, serial, LINKSHOAR_SERIAL_WORDS, marks, sizeof marks, list,
+                                                  plan.bytes);
     must(ran.number, "list");
     state = ran.state;
     fills += named / LINKSHOAR_RECTANGLE_BYTES, calls += 2, cycles += plan.cycles;
@@ -211,22 +213,48 @@ static void survive_power_off(linkshoar_palette *palette)
     }
 }
 
-/* ---- showing: the panel's bytes are the picture's, eight bits to a part */
+/* ---- sending: the panel's bytes are the picture's, eight bits to a part. Transfers draw nothing, so they need no marks. */
 
-static void show(linkshoar_palette palette)
+static void send_row(linkshoar_palette palette, uint16_t row)
 {
     enum { HALF_BYTES = 3 * LINKSHOAR_SERIAL_WORDS };
+    for (uint8_t half = 0; half < 2; half++) {
+        size_t bytes = linkshoar_put_full_transfer(list, row, half, 0);
+        linkshoar_ran ran = linkshoar_list_run(state, memory, ROWS * COLUMNS, serial, LINKSHOAR_SERIAL_WORDS, list, bytes);
+        must(ran.number, "transfer");
+        linkshoar_shown shown = linkshoar_panel_run(ran.state, serial, LINKSHOAR_SERIAL_WORDS, palette, table, sizeof table,
+                                                    LINKSHOAR_SERIAL_WORDS, 0, (uint8_t *)picture[row] + half * HALF_BYTES, HALF_BYTES);
+        must(shown.number, "panel");
+        state = shown.state;
+    }
+    rows_sent++;
+}
+
+static void send_screen(linkshoar_palette palette)
+{
     for (uint16_t row = 0; row < ROWS; row++)
-        for (uint8_t half = 0; half < 2; half++) {
-            size_t bytes = linkshoar_put_full_transfer(list, row, half, 0);
-            linkshoar_ran ran = linkshoar_list_run(state, memory, ROWS * COLUMNS, serial, LINKSHOAR_SERIAL_WORDS, list, bytes);
-            must(ran.number, "transfer");
-            linkshoar_shown shown = linkshoar_panel_run(ran.state, serial, LINKSHOAR_SERIAL_WORDS, palette, table, sizeof table,
-                                                        LINKSHOAR_SERIAL_WORDS, 0, (uint8_t *)picture[row] + half * HALF_BYTES,
-                                                        HALF_BYTES);
-            must(shown.number, "panel");
-            state = shown.state;
-        }
+        send_row(palette, row);
+    must(linkshoar_marks_clear(marks, sizeof marks), "clear");
+}
+
+/* Only the rows that have been written to since the last sending. */
+static void send_marked(linkshoar_palette palette)
+{
+    linkshoar_marked next = linkshoar_marks_next(marks, sizeof marks, 0);
+    for (; next.found; next = linkshoar_marks_next(marks, sizeof marks, next.row + 1))
+        send_row(palette, (uint16_t)next.row);
+    must(linkshoar_marks_clear(marks, sizeof marks), "clear");
+}
+
+/* Whether the whole screen, sent anew, is the picture that the marked rows have made, byte for byte. */
+static int sent_enough(linkshoar_palette palette)
+{
+    static uint8_t before[sizeof picture];
+    unsigned long sent = rows_sent;
+    memcpy(before, picture, sizeof picture);
+    send_screen(palette);
+    rows_sent = sent;
+    return !memcmp(before, picture, sizeof picture);
 }
 
 /* Whether two values that begin with the same three letters show them with the colours of letters and ground exchanged. */
@@ -240,7 +268,7 @@ static int exchanged(uint32_t row, uint32_t other)
     return memcmp(lit, ground, 3) != 0;
 }
 
-static const char *what_is_wrong(void)
+static const char *what_is_wrong(linkshoar_palette palette)
 {
     static const uint8_t result[3] = {247, 251, 255}; /* 61, 62, 63 in eight bits */
     if (memory[HCV * COLUMNS + 24] >> 8 != AMBER || memory[CMV * COLUMNS + 24] >> 8 != AMBER)
@@ -251,6 +279,8 @@ static const char *what_is_wrong(void)
         return "the old result is not legible";
     if (memcmp(picture[HIV + 4][VALUE], result, 3))
         return "a colour is not the palette's in eight bits";
+    if (!sent_enough(palette))
+        return "a row that changed was not sent";
     return NULL;
 }
 
@@ -331,12 +361,15 @@ int main(int argc, char **argv)
     survive_power_off(&palette);
     page();
     recheck();
+    send_screen(palette);
+    unsigned long whole = rows_sent;
     rerun();
-    show(palette);
+    send_marked(palette);
     write_picture(argc > 1 ? argv[1] : "page.png");
     printf("%lu fills, %lu cycles; word by word %lu\n", fills, cycles, words_alone);
     printf("%lu calls drew them, two for each page; fill by fill it would be %lu, so %lu fewer\n", calls, 2 * fills, 2 * fills - calls);
-    const char *wrong = what_is_wrong();
+    printf("%lu rows sent, and then the %lu that the rerun marked\n", whole, rows_sent - whole);
+    const char *wrong = what_is_wrong(palette);
     if (wrong)
         printf("%s\n", wrong);
     return wrong != NULL;

@@ -1,5 +1,5 @@
-/* Linkshoar: a proved stand-in for one TMS55161 video RAM and one Am81C176 palette, a planner of shortest fills, and for the older boards
- * the counters of an Am8150.
+/* Linkshoar: a proved stand-in for one TMS55161 video RAM and one Am81C176 palette, a planner of shortest fills, marks of the rows that a
+ * link must send, and for the older boards the counters of an Am8150.
  *
  * The caller holds the states and lends the memory; nothing is allocated, nothing is kept, and no call blocks. A state goes in by value
  * and the new one comes back in the answer: keep it, since the next call takes it. Every call takes every input: what it cannot do it
@@ -18,6 +18,7 @@
  *   table    the palette's 256 entries, 768 bytes: entry e has red at 3 * e, green at 3 * e + 1, blue at 3 * e + 2. The low six bits of
  *            a byte are read, 0 to 63. The caller may write it in place, or by linkshoar_palette_write as the chip is written.
  *   list     cycles as bytes: see "Lists" below.
+ *   marks    a mark for each of 512 rows, 64 bytes: see "Marks of rows" below.
  *   rectangles   a page's rectangles as bytes: see "Pages" below.
  */
 #ifndef LINKSHOAR_H
@@ -30,7 +31,9 @@
 extern "C" {
 #endif
 
-/* Since 4.8.0 there is linkshoar_page: a page of fills by one call. No program must change; one that fills rectangle after rectangle may name
+/* Since 4.9.0 a list can be run with marks of rows: linkshoar_list_run_marked, linkshoar_marks_clear, linkshoar_marks_next, and number 18 is
+ * new. No program must change; one whose link sends the whole screen after each list may send the marked rows alone (see "Marks of rows").
+ * Since 4.8.0 there is linkshoar_page: a page of fills by one call. No program must change; one that fills rectangle after rectangle may name
  * them in one list (linkshoar_put_rectangle) and call once.
  * Since 4.7.0 a list must not leave its mask behind: one with a mask load and no reset refresh after it is refused whole with number 20, new,
  * at the offset of its last mask load. A program whose lists load the mask must change: each such list ends with linkshoar_put_reset_refresh,
@@ -53,10 +56,11 @@ extern "C" {
  * program that fills both bytes with FFFF to show entry 255 fills them with 00FF.
  * Since 4.3.0 the two palette reads take the table, and after a read of blue the colour registers take the next entry and the address goes
  * up by one: a program that then reads the same entry again, writes colours or reads the address sets the address first. */
-#define LINKSHOAR_VERSION "4.8.0"
+#define LINKSHOAR_VERSION "4.9.0"
 
 /* The numbers given back. Where several apply the lowest is given; in a list the first bad field wins, then its lowest number, and 20 is
- * given only where no field is refused; in a page the first bad field wins over 13 and 15. */
+ * given only where no field is refused; in a page the first bad field wins over 13 and 15; 18 comes straight after 3, before 5 and before any
+ * field. */
 enum {
     LINKSHOAR_DONE = 0,
     LINKSHOAR_STATE_EXCLUDED = 1,
@@ -76,7 +80,8 @@ enum {
     LINKSHOAR_BUFFER_SHORT = 15,
     LINKSHOAR_SETTING_OTHER = 16,
     LINKSHOAR_VIDEO_OFF_OR_OVERRIDE = 17,
-    LINKSHOAR_PARTITION_OTHER = 19, /* there is no 18 */
+    LINKSHOAR_MARKS_LENGTH = 18,
+    LINKSHOAR_PARTITION_OTHER = 19,
     LINKSHOAR_MASK_LEFT_BEHIND = 20
 };
 
@@ -89,6 +94,7 @@ enum {
     LINKSHOAR_LIST_BYTES = 851974,  /* the longest list that a fill writes */
     LINKSHOAR_FIELD_BYTES = 13,     /* the longest field of a list */
     LINKSHOAR_RECTANGLE_BYTES = 15, /* a rectangle of a page */
+    LINKSHOAR_MARKS_BYTES = 64,     /* a mark for each of 512 rows */
     LINKSHOAR_ADDRESSES = 262144    /* the Am8150's addresses: 18 bits */
 };
 
@@ -159,6 +165,11 @@ typedef struct {
     uint64_t place; /* of 4 to 10, and 19: the offset of the field that is refused, in bytes from the list's first; of 20: of the last mask
                        load; else 0 */
 } linkshoar_ran;
+
+typedef struct {
+    uint32_t number;
+    uint32_t found, row; /* found: 0 no row is marked, 1 one is, and it is row; both 0 where the call is refused */
+} linkshoar_marked;
 
 typedef struct {
     linkshoar_vram state;
@@ -372,6 +383,23 @@ static inline size_t linkshoar_put_rectangle(uint8_t *at, uint16_t first_row, ui
     return linkshoar_put_head(at, LINKSHOAR_TAG_RECTANGLE, 12);
 }
 
+/* ---- Marks of rows
+ *
+ * Which rows changed, for a link that would else send the whole screen. Row r's mark is bit r mod 8 of byte r / 8, in LINKSHOAR_MARKS_BYTES
+ * lent bytes. A mark is set when a word or block write that names its row has run, even if that changed no bit; a refused list sets none.
+ * So a row that is not marked holds the words that it held when the marks were last cleared, as long as all drawing on that memory goes
+ * through linkshoar_list_run_marked: lists that only transfer, clocks and panel runs draw nothing and may be called either way.
+ *
+ * The link copies the memory once and clears the marks; then, after any number of lists, this brings its copy up to date:
+ *
+ *   for (linkshoar_marked m = linkshoar_marks_next(marks, sizeof marks, 0); m.found; m = linkshoar_marks_next(marks, sizeof marks, m.row + 1))
+ *       send(m.row);
+ *   linkshoar_marks_clear(marks, sizeof marks);
+ *
+ * The loop visits every marked row once, from low to high, and ends after row 511 by itself: a start row of 512 is refused, so nothing is
+ * found. Marks that were cleared and then set by marked runs on one memory name rows of that memory alone; bytes that were not cleared may
+ * name rows that are not fitted. */
+
 /* ---- Calls */
 
 /* The states at power-on: zeros, a partition of 128 places, and a pixel mask of 255. */
@@ -395,9 +423,21 @@ linkshoar_paged linkshoar_page(uint32_t rows, uint32_t persistent, const uint8_t
 
 /* Checks a list whole, then runs it in order; length: the list's bytes. A list with a mask load or a reset refresh, where it is not refused,
  * leaves the mask not persistent; any other leaves persistence as it was. So from a fresh state on no fill or page that is given the
- * state's own persistent is refused with 13. Refused with 1 to 10, 19, 20. */
+ * state's own persistent is refused with 13, and the same holds with the marked run below. Refused with 1 to 10, 19, 20. */
 linkshoar_ran linkshoar_list_run(linkshoar_vram state, uint16_t *memory, size_t words, uint16_t *serial, size_t serial_words,
                                  const uint8_t *list, size_t length);
+
+/* The same, and each row that a word or block write of the list names is marked, if the list is not refused. marks, marks_bytes:
+ * LINKSHOAR_MARKS_BYTES bytes; marks that are set stay set. Refused with 1 to 3, 18, 4 to 10, 19, 20, in this order; 18 has place 0. */
+linkshoar_ran linkshoar_list_run_marked(linkshoar_vram state, uint16_t *memory, size_t words, uint16_t *serial, size_t serial_words,
+                                        uint8_t *marks, size_t marks_bytes, const uint8_t *list, size_t length);
+
+/* Clears all marks; answers the number. Refused with 18. */
+uint32_t linkshoar_marks_clear(uint8_t *marks, size_t marks_bytes);
+
+/* The first marked row from start on, start itself included; found is 0 where there is none. Refused with 18; then 5 where start is over
+ * 511. */
+linkshoar_marked linkshoar_marks_next(const uint8_t *marks, size_t marks_bytes, uint32_t start);
 
 /* Reads a word; a byte not strobed is 0. strobes: one of LINKSHOAR_STROBES_. Refused with 2, 5, 6, 7. */
 linkshoar_word linkshoar_word_read(const uint16_t *memory, size_t words, uint32_t row, uint32_t column, uint32_t strobes);
@@ -487,7 +527,7 @@ static inline const char *linkshoar_strerror(uint32_t number)
     case LINKSHOAR_MEMORY_LENGTH: return "memory length or rows fitted not 1 to 512 rows";
     case LINKSHOAR_REGISTER_LENGTH: return "serial register not 256 words, or palette table not 768 bytes";
     case LINKSHOAR_FIELD_UNREADABLE: return "unknown tag, wrong length or a field cut short";
-    case LINKSHOAR_ROW_NOT_FITTED: return "row not fitted";
+    case LINKSHOAR_ROW_NOT_FITTED: return "row not fitted, or a start row over 511";
     case LINKSHOAR_COLUMN_OVER: return "column over 511";
     case LINKSHOAR_STROBES_OTHER: return "strobes not 1 to 3";
     case LINKSHOAR_MASKING_OTHER: return "masking not 0 or 1, or plain with a mask";
@@ -500,6 +540,7 @@ static inline const char *linkshoar_strerror(uint32_t number)
     case LINKSHOAR_BUFFER_SHORT: return "answer buffer too short";
     case LINKSHOAR_SETTING_OTHER: return "setting out of range, or page mode together with interleaved update";
     case LINKSHOAR_VIDEO_OFF_OR_OVERRIDE: return "no word is fetched with video off or in override";
+    case LINKSHOAR_MARKS_LENGTH: return "marks not 64 bytes";
     case LINKSHOAR_PARTITION_OTHER: return "partition length not 16, 32, 64 or 128";
     case LINKSHOAR_MASK_LEFT_BEHIND: return "a mask load with no reset refresh after it in the list";
     default: return "unknown number";

@@ -82,11 +82,6 @@ void sow(uint64_t from)
 
 /* ---- comparing */
 
-int given(uint32_t number)
-{
-    return number < NUMBERS && number != 18;
-}
-
 void count(uint32_t number)
 {
     calls++;

@@ -4,7 +4,7 @@
 
 #include "linkshoar.h"
 
-enum { NUMBERS = 21 }; /* 0 to 20, but for 18, are given */
+enum { NUMBERS = 21 }; /* 0 to 20 are given */
 
 extern unsigned long long calls, seen[NUMBERS];
 
@@ -18,7 +18,7 @@ uint32_t about(uint32_t n); /* mostly below n, and else at its edge or past a na
  * it, also before and past the part that is lent. */
 enum { MOST_WORDS = 513 * 512, MOST_SERIAL = 300, MOST_TABLE = 800, AROUND = 512 };
 extern uint16_t *const memory_a, *const memory_b, *const serial_a, *const serial_b;
-extern uint8_t *const table_a, *const table_b; /* the palette's, or a page's rectangles */
+extern uint8_t *const table_a, *const table_b; /* the palette's, a page's rectangles, or marks */
 extern uint8_t *const bytes_a, *const bytes_b; /* a list, or a run's answer */
 
 void some_words(uint16_t *a, uint16_t *b, size_t n);
@@ -26,7 +26,6 @@ void some_bytes(uint8_t *a, uint8_t *b, size_t n);
 uint16_t *words_of(uint16_t *at, size_t n); /* the slice as it is lent: null where it is empty */
 uint8_t *bytes_of(uint8_t *at, size_t n);
 
-int given(uint32_t number); /* whether any call gives it */
 void count(uint32_t number);
 void differ(const char *what); /* prints it and ends the program with 1 */
 int vram_same(linkshoar_vram a, linkshoar_vram b); /* member by member: the bytes between members are not determined */

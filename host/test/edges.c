@@ -139,6 +139,19 @@ static void every_mask_list(void)
         }
 }
 
+/* A field of every tag, with a body of each length that some tag has. */
+static void every_tag(void)
+{
+    static const uint8_t bodies[] = {0, 1, 3, 4, 10};
+    for (unsigned tag = 0; tag < 256; tag++)
+        for (size_t b = 0; b < sizeof bodies; b++) {
+            memset(bytes_a, 1, LINKSHOAR_FIELD_BYTES);
+            bytes_a[0] = (uint8_t)tag, bytes_a[1] = 0, bytes_a[2] = bodies[b];
+            memcpy(bytes_b, bytes_a, LINKSHOAR_FIELD_BYTES);
+            both_list_run(loaded(), 1024, 256, 3u + bodies[b]);
+        }
+}
+
 /* Every length, 0 to 255, in a field and in a state, with the pointer at 15 and a tap waiting. */
 static void every_length(void)
 {
@@ -196,10 +209,12 @@ void try_edges(void)
     word_edges();
     fill_edges();
     page_edges();
+    marks_edges();
     panel_edges();
     every_word();
     every_part();
     every_mask_list();
+    every_tag();
     every_length();
     every_place();
     palette_edges();

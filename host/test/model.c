@@ -303,6 +303,93 @@ linkshoar_ran model_list_run(linkshoar_vram state, uint16_t *memory, size_t word
     return r;
 }
 
+/* ---- marks of rows */
+
+/* Row r is bit r mod 8 of byte r / 8. */
+static int marked(const uint8_t *marks, uint32_t row)
+{
+    return bit(marks[row / 8], FAULT == 58 ? 7 - (int)(row % 8) : (int)(row % 8)); /* the bits of a byte the other way round */
+}
+
+static void mark(uint8_t *marks, uint32_t row)
+{
+    if (!marked(marks, row))
+        marks[row / 8] = (uint8_t)(marks[row / 8] + (1u << (FAULT == 58 ? 7 - row % 8 : row % 8)));
+}
+
+/* The rows that the writes among the first so many bytes of a list name. */
+static void mark_rows(uint8_t *marks, const uint8_t *list, size_t length, const uint16_t *before, const uint16_t *memory)
+{
+    for (size_t at = 0; at < length; at += 3 + pair(list + at + 1)) {
+        model_field f = model_field_read(list + at);
+        int writes = (f.tag == 1 && FAULT != 56) || (f.tag == 2 && FAULT != 67); /* only block writes, only word writes */
+        if (FAULT == 57 && (f.tag == 6 || f.tag == 7)) /* the row of a transfer too */
+            writes = 1;
+        if (FAULT == 62 && writes && !memcmp(before + 512 * f.row, memory + 512 * f.row, 1024)) /* only a row that was changed */
+            writes = 0;
+        if (writes)
+            mark(marks, f.row);
+    }
+}
+
+linkshoar_ran model_list_run_marked(linkshoar_vram state, uint16_t *memory, size_t words, uint16_t *serial, size_t serial_words,
+                                    uint8_t *marks, size_t marks_bytes, const uint8_t *list, size_t length)
+{
+    static uint16_t before[513 * 512];
+    linkshoar_ran r;
+    memset(&r, 0, sizeof r);
+    r.state = state;
+    if (FAULT == 60 && marks_bytes != 64) /* 18 before 1 to 3 */
+        r.number = 18;
+    else if (vram_allowed(state) && rows_fitted(words) && serial_words == 256 && marks_bytes != 64 && FAULT != 64)
+        r.number = 18;
+    if (r.number)
+        return r;
+    if (FAULT == 62 && words)
+        memcpy(before, memory, 2 * words);
+    r = model_list_run(state, memory, words, serial, serial_words, list, length);
+    if (!r.number && marks_bytes != 64) { /* fault 64: 18 given when the list has run */
+        r.state = state;
+        r.number = 18;
+        return r;
+    }
+    if (FAULT == 65 && !r.number) /* the marks of the lists before forgotten */
+        memset(marks, 0, 64);
+    if (!r.number)
+        mark_rows(marks, list, length, before, memory);
+    else if (FAULT == 59 && r.number > 3 && marks_bytes == 64) /* a refused list marks the rows of the fields before */
+        mark_rows(marks, list, (size_t)r.place, before, memory);
+    return r;
+}
+
+uint32_t model_marks_clear(uint8_t *marks, size_t marks_bytes)
+{
+    if (marks_bytes != 64)
+        return 18;
+    for (size_t i = 0; i < (FAULT == 63 ? 63 : 64); i++) /* the last byte left */
+        marks[i] = 0;
+    return 0;
+}
+
+linkshoar_marked model_marks_next(const uint8_t *marks, size_t marks_bytes, uint32_t start)
+{
+    linkshoar_marked r = {0, 0, 0};
+    if (marks_bytes != 64)
+        r.number = 18;
+    else if (start > 511)
+        r.number = FAULT == 66 ? 0 : 5; /* a start row over 511 answered with none */
+    if (FAULT == 68 && start > 511) /* 5 before 18 */
+        r.number = 5;
+    if (r.number)
+        return r;
+    for (uint32_t row = start + (FAULT == 61); row < 512 && !r.found; row++) /* from the row after the start */
+        if (marked(marks, row)) {
+            r.found = 1;
+            r.row = row;
+        }
+    return r;
+}
+
 /* ---- word read and serial clock */
 
 linkshoar_word model_word_read(const uint16_t *memory, size_t words, uint32_t row, uint32_t column, uint32_t strobes)

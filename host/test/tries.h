@@ -2,14 +2,23 @@
 #ifndef TRIES_H
 #define TRIES_H
 
+#include "linkshoar.h"
+
 void try_fill(void);       /* fill.c: the planner's call */
 void try_page(void);       /* page.c: a page of fills, also against its fills called one by one */
 void page_edges(void);     /* page.c: pages and rooms of every length about that of one and two rectangles, every pair of refusals */
+void try_marks(void);      /* marks.c: a list with marks, then the marks searched and cleared */
+void try_link(void);       /* marks.c: a link that sends the marked rows alone, whose copy must be the memory */
+void marks_edges(void);    /* marks.c: every row marked alone, every length about 64, every pair of refusals */
 void try_edges(void);      /* edges.c: every slice of every call empty, one short and one long, a memory of 513 rows; every word shown, every
-                              byte as each part at both widths; every partition length, and a run from every place */
+                              byte as each part at both widths; a field of every tag; every partition length, and a run from every place */
 void try_fields(void);     /* fields.c: the header's functions that write a field, against the second implementation's reading of it */
 void try_saved(void);      /* saved.c: a palette saved by reading, written back and compared with the table's own bytes */
 void try_controller(void); /* controller.c: a random session of the Am8150 */
 void try_frame(void);      /* controller.c: frames of the Am8150, against the address of each word in closed form */
+
+/* What these take at random. */
+linkshoar_vram some_vram(void);  /* test.c: a state, now and then one that the rules exclude */
+size_t some_list(uint32_t rows); /* test.c: a list for both; how many bytes of it are lent */
 
 #endif

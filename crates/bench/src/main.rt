@@ -1,7 +1,8 @@
 // Runs the bench cases of document 01 that are not proved, and more, and prints what came. The starred ones, M-102's and ours for
-// M-107 and M-111 are proved in specs/; ours for M-103 is run.
+// M-107 and M-111 are proved in specs/; ours for M-103 and M-104 are run.
 ghost use mathlib.Core.Path.{_≡_};
 ghost use lib.ListN.{length};
+use marks::Found;
 use page::linkshoar_page;
 use planner::Filled;
 use planner::linkshoar_fill;
@@ -140,10 +141,46 @@ fn page_of_two() {
     say_page(&rectangles[..29], &mut list);
 }
 
+// What is found from a start row on.
+fn say_next(marks: &[u8], start: u32) {
+    let next = marks::next(marks, start);
+    let found = next.found;
+    say(b"from ");
+    say_number(start);
+    say(b": ");
+    say_number(next.number);
+    match found {
+        Found::None => say(b", none\n"),
+        Found::Row(row) => {
+            say(b", row ");
+            say_number(row as u32);
+            say(b"\n");
+        }
+    }
+}
+
+// A write to row 3, a full transfer of row 9 and a write of 0 to row 63, which is 0: rows 3 and 63 are marked.
+fn marked_rows() {
+    let mut memory = [0u16; 32768];
+    let mut serial = [0u16; 256];
+    let mut marks = [0u8; 64];
+    let list =
+        *b"\x01\0\x0A\0\x03\0\x02\0\x11\x01\0\xFF\x03\x06\0\x04\0\x09\0\0\x01\0\x0A\0\x3F\0\0\0\0\0\0\0\x03";
+    let ran = marks::run(Vram::fresh(), &mut memory, &mut serial, &mut marks, &list);
+    say(b"marked run: ");
+    say_number(ran.number);
+    say(b"\n");
+    say_next(&marks, 0);
+    say_next(&marks, 3);
+    say_next(&marks, 4);
+    say_next(&marks, 512);
+}
+
 fn main() {
     worked_fill();
     last_row();
     long_lists();
     mask_left_behind();
     page_of_two();
+    marked_rows();
 }

@@ -2,10 +2,9 @@
 -- four is refused. Assumes nothing.
 use Prim.Native.Nat.{ℕ}
 use mathlib.Core.Path.{_≡_, refl, sym, ap, _∙_}
-use mathlib.Core.Bool.{Bool, true, false, _&&_, _||_, cond}
+use mathlib.Core.Bool.{Bool, true, false, cond}
 use mathlib.Core.List.{List}
 use mathlib.Core.Logic.{_≢_}
-use lib.Dec.{eqb, leb}
 use Rattle.refusals.specs.Refusal.{partitionOk}
 use Rattle.vram.specs.declared.Vram.{Vram}
 use Rattle.vram.specs.Board.{Board, board}
@@ -20,11 +19,13 @@ use Rattle.list.specs.CallLaws.{call-given, call-refuses}
 use Rattle.panel.specs.Calls.{Outcome as PanelOutcome, outcome as panelOutcome, runCallBy as panelRunBy}
 use Rattle.panel.specs.CallLaws.{run-number, run-refuses}
 use Rattle.panel.specs.WidthLaws.{same-answer}
-use Rattle.host.specs.declared.Registers.{Registers}
+use Rattle.registers.specs.declared.Registers.{Registers}
+use Rattle.registers.specs.declared.Ran.{Ran}
+use Rattle.registers.specs.State.{lawful, taken, handed, handedRan}
+use Rattle.registers.specs.StateLaws.{handed-taken, taking-excluded, taking-done, taking-handed, taking-either, other-length}
 use Rattle.host.specs.declared.Clocked.{Clocked}
-use Rattle.host.specs.State.{lawful, taken, handed}
-use Rattle.host.specs.StateLaws.{handed-taken, taken-handed, handed-lawful}
-use Rattle.host.specs.Calls.{Listed, listed, listAnswer, listCall, clockCall, ShownTo, shown, panelAnswer, panelCallBy}
+use Rattle.host.specs.declared.Shown.{Shown}
+use Rattle.host.specs.Calls.{Listed, listed, listAnswer, listCall, clockAnswer, clockCall, ShownTo, shown, panelAnswer, panelCallBy}
 
 -- ---- the two ways out of each call, by what the code has
 
@@ -32,63 +33,49 @@ module _ (s : Registers) where
   module _ (h : lawful s ≡ false) where
     pub list-excluded : (m q list : List ℕ) → listed (record { state = s; number = 1; place = 0 }) m q ≡ listCall s m q list
     unfolding listCall
-    list-excluded m q list = rw h
+    list-excluded m q list = taking-excluded (λ v. listAnswer (runCall list (board v m q))) _ s h
 
     pub clock-excluded : (r : List ℕ) → record { state = s; word = 0; number = 1 } ≡ clockCall s r
     unfolding clockCall
-    clock-excluded r = rw h
+    clock-excluded r = taking-excluded (λ v. clockAnswer (vramClock v r)) _ s h
 
     pub panel-excluded : (parts : ℕ → ℕ) (r : List ℕ) (p : Palette) (t : List ℕ) (clocks blank : ℕ) (out : List ℕ)
         → shown (record { state = s; number = 1 }) out ≡ panelCallBy parts s r p t clocks blank out
     unfolding panelCallBy
-    panel-excluded parts r p t clocks blank out = rw h
+    panel-excluded parts r p t clocks blank out = taking-excluded (λ v. panelAnswer (panelRunBy parts v r p t clocks blank out)) _ s h
 
-  module _ (h : lawful s ≡ true) (v : Vram) (e : v ≡ taken s) (given : Registers) where
-    pub list-done : (m q list : List ℕ) (ran : ListRan) (m′ q′ : List ℕ) → outcome ran m′ q′ ≡ runCall list (board v m q) → given ≡ handed (ran .state)
-        → listed (record { state = given; number = ran .number; place = ran .place }) m′ q′ ≡ listCall s m q list
+  module _ (h : lawful s ≡ true) (v : Vram) (e : v ≡ taken s) where
+    pub list-done : (m q list : List ℕ) (ran : ListRan) (m′ q′ : List ℕ) → outcome ran m′ q′ ≡ runCall list (board v m q)
+        → (answer : Ran) → answer ≡ handedRan ran → listed answer m′ q′ ≡ listCall s m q list
     unfolding listCall
-    list-done m q list ran m′ q′ f g =
-        ap (λ (x : Registers). listed (record { state = x; number = ran .number; place = ran .place }) m′ q′) g
-        ∙ ap listAnswer (f ∙ ap (λ (x : Vram). runCall list (board x m q)) e)
-        ∙ sym (rw h)
+    list-done m q list ran m′ q′ f answer g =
+        taking-done (λ x. listAnswer (runCall list (board x m q))) _ s h v e (listed answer m′ q′) (ap (λ (a : Ran). listed a m′ q′) g ∙ ap listAnswer f)
 
-    pub clock-done : (r : List ℕ) (c : VramClocked) → c ≡ vramClock v r → given ≡ handed (c .state)
+    pub clock-done : (r : List ℕ) (c : VramClocked) → c ≡ vramClock v r → (given : Registers) → given ≡ handed (c .state)
         → record { state = given; word = c .word; number = c .number } ≡ clockCall s r
     unfolding clockCall
-    clock-done r c f g =
-        ap (clocked c) g
-        ∙ ap (λ (x : VramClocked). clocked x (handed (x .state))) (f ∙ ap (λ (x : Vram). vramClock x r) e)
-        ∙ sym (rw h)
+    clock-done r c f given g =
+        taking-done (λ x. clockAnswer (vramClock x r)) _ s h v e _ (ap (clocked c) g ∙ ap clockAnswer f)
       where
         clocked : VramClocked → Registers → Clocked
         clocked x t = record { state = t; word = x .word; number = x .number }
 
     pub panel-done : (parts : ℕ → ℕ) (r : List ℕ) (p : Palette) (t : List ℕ) (clocks blank : ℕ) (out : List ℕ) (a : Answered) (out′ : List ℕ)
-        → panelOutcome a out′ ≡ panelRunBy parts v r p t clocks blank out → given ≡ handed (a .state)
+        → panelOutcome a out′ ≡ panelRunBy parts v r p t clocks blank out → (given : Registers) → given ≡ handed (a .state)
         → shown (record { state = given; number = a .number }) out′ ≡ panelCallBy parts s r p t clocks blank out
     unfolding panelCallBy
-    panel-done parts r p t clocks blank out a out′ f g =
-        ap (λ (x : Registers). shown (record { state = x; number = a .number }) out′) g
-        ∙ ap panelAnswer (f ∙ ap (λ (x : Vram). panelRunBy parts x r p t clocks blank out) e)
-        ∙ sym (rw h)
+    panel-done parts r p t clocks blank out a out′ f given g =
+        taking-done (λ x. panelAnswer (panelRunBy parts x r p t clocks blank out)) _ s h v e _
+        (ap (λ (x : Registers). shown (record { state = x; number = a .number }) out′) g ∙ ap panelAnswer f)
 
 -- ---- a refusal hands the state back as it came, also where no `Vram` can be so, and changes nothing lent
 
 module _ (s : Registers) where
-  -- both ways out are as `back` makes them: so is the call
-  either-way : {O : Type 0} (number : O → ℕ) (back : O → O) (done excluded : O)
-      → (lawful s ≡ true → number done ≢ 0 → done ≡ back done) → excluded ≡ back excluded
-      → number (cond (lawful s) done excluded) ≢ 0 → cond (lawful s) done excluded ≡ back (cond (lawful s) done excluded)
-  either-way number back done excluded f g = go (lawful s) refl
-    where
-      go : (t : Bool) → lawful s ≡ t → number (cond t done excluded) ≢ 0 → cond t done excluded ≡ back (cond t done excluded)
-      go true e n = f e n
-      go false e n = g
-
   pub list-refused : (m q list : List ℕ) → let o = listCall s m q list in o .answer .number ≢ 0
       → o ≡ listed (record { state = s; number = o .answer .number; place = o .answer .place }) m q
   unfolding listCall
-  list-refused m q list = either-way (λ (o : Listed). o .answer .number) (λ (o : Listed). back o s m q) (listAnswer ran) _ done refl
+  list-refused m q list =
+      taking-either (λ v. listAnswer (runCall list (board v m q))) _ (λ (o : Listed). o .answer .number ≢ 0 → o ≡ back o s m q) s done (λ n. refl)
     where
       given : Board
       given = board (taken s) m q
@@ -107,7 +94,8 @@ module _ (s : Registers) where
 
   pub clock-refused : (r : List ℕ) → let o = clockCall s r in o .number ≢ 0 → o ≡ record { state = s; word = 0; number = o .number }
   unfolding clockCall
-  clock-refused r = either-way (λ (o : Clocked). o .number) (λ (o : Clocked). clocked s 0 (o .number)) _ _ done refl
+  clock-refused r =
+      taking-either (λ v. clockAnswer (vramClock v r)) _ (λ (o : Clocked). o .number ≢ 0 → o ≡ clocked s 0 (o .number)) s done (λ n. refl)
     where
       below : VramClocked
       below = vramClock (taken s) r
@@ -115,17 +103,17 @@ module _ (s : Registers) where
       clocked : Registers → ℕ → ℕ → Clocked
       clocked t word number = record { state = t; word = word; number = number }
 
-      done : lawful s ≡ true → below .number ≢ 0 → clocked (handed (below .state)) (below .word) (below .number) ≡ clocked s 0 (below .number)
+      done : lawful s ≡ true → below .number ≢ 0 → clockAnswer below ≡ clocked s 0 (below .number)
       done e n =
-          ap (λ (c : VramClocked). clocked (handed (c .state)) (c .word) (c .number)) (clock-refuses (taken s) r n)
-          ∙ ap (λ (t : Registers). clocked t 0 (below .number)) (handed-taken s e)
+          ap clockAnswer (clock-refuses (taken s) r n) ∙ ap (λ (t : Registers). clocked t 0 (below .number)) (handed-taken s e)
 
   pub panel-refused : (parts : ℕ → ℕ) (r : List ℕ) (p : Palette) (t : List ℕ) (clocks blank : ℕ) (out : List ℕ)
       → let o = panelCallBy parts s r p t clocks blank out in o .answer .number ≢ 0
       → o ≡ shown (record { state = s; number = o .answer .number }) out
   unfolding panelCallBy
   panel-refused parts r p t clocks blank out =
-      either-way (λ (o : ShownTo). o .answer .number) (λ (o : ShownTo). back s (o .answer .number)) (panelAnswer ran) _ done refl
+      taking-either (λ v. panelAnswer (panelRunBy parts v r p t clocks blank out)) _
+      (λ (o : ShownTo). o .answer .number ≢ 0 → o ≡ back s (o .answer .number)) s done (λ n. refl)
     where
       ran : PanelOutcome
       ran = panelRunBy parts (taken s) r p t clocks blank out
@@ -140,25 +128,16 @@ module _ (s : Registers) where
 
 -- ---- a stored length that is not one of the four is 1, in every call that is given the state
 
-neither : (p : Bool) → (p && false) ≡ false
-neither true = refl
-neither false = refl
-
 module _ (s : Registers) (h : partitionOk (s .stop) ≡ false) where
-  unlawful : lawful s ≡ false
-  unfolding lawful
-  unlawful =
-      rw h (neither (((leb (s .persistent) 1 && leb (s .loaded) 1) && leb (s .waiting) 1) && (eqb (s .waiting) 1 || eqb (s .tap) 0)))
-
   pub other-length-list : (m q list : List ℕ) → listCall s m q list ≡ listed (record { state = s; number = 1; place = 0 }) m q
-  other-length-list m q list = sym (list-excluded s unlawful m q list)
+  other-length-list m q list = sym (list-excluded s (other-length s h) m q list)
 
   pub other-length-clock : (r : List ℕ) → clockCall s r ≡ record { state = s; word = 0; number = 1 }
-  other-length-clock r = sym (clock-excluded s unlawful r)
+  other-length-clock r = sym (clock-excluded s (other-length s h) r)
 
   pub other-length-panel : (parts : ℕ → ℕ) (r : List ℕ) (p : Palette) (t : List ℕ) (clocks blank : ℕ) (out : List ℕ)
       → panelCallBy parts s r p t clocks blank out ≡ shown (record { state = s; number = 1 }) out
-  other-length-panel parts r p t clocks blank out = sym (panel-excluded s unlawful parts r p t clocks blank out)
+  other-length-panel parts r p t clocks blank out = sym (panel-excluded s (other-length s h) parts r p t clocks blank out)
 
 -- ---- both runs to the panel answer the same state and number
 
@@ -182,13 +161,13 @@ panel-same parts others s r p t clocks blank out = go (lawful s)
 module _ (v : Vram) where
   pub list-handed : (m q list : List ℕ) → listCall (handed v) m q list ≡ listAnswer (runCall list (board v m q))
   unfolding listCall
-  list-handed m q list = rw (handed-lawful v, taken-handed v)
+  list-handed m q list = taking-handed (λ x. listAnswer (runCall list (board x m q))) _ v
 
-  pub clock-handed : (r : List ℕ) → let c = vramClock v r in clockCall (handed v) r ≡ record { state = handed (c .state); word = c .word; number = c .number }
+  pub clock-handed : (r : List ℕ) → clockCall (handed v) r ≡ clockAnswer (vramClock v r)
   unfolding clockCall
-  clock-handed r = rw (handed-lawful v, taken-handed v)
+  clock-handed r = taking-handed (λ x. clockAnswer (vramClock x r)) _ v
 
   pub panel-handed : (parts : ℕ → ℕ) (r : List ℕ) (p : Palette) (t : List ℕ) (clocks blank : ℕ) (out : List ℕ)
       → panelCallBy parts (handed v) r p t clocks blank out ≡ panelAnswer (panelRunBy parts v r p t clocks blank out)
   unfolding panelCallBy
-  panel-handed parts r p t clocks blank out = rw (handed-lawful v, taken-handed v)
+  panel-handed parts r p t clocks blank out = taking-handed (λ x. panelAnswer (panelRunBy parts x r p t clocks blank out)) _ v

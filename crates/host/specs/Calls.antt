@@ -1,19 +1,19 @@
 -- What each export answers and leaves that takes the video RAM's state from C: 1 where no `Vram` can be so, and else what the call below
 -- answers, with the state handed back. Assumes nothing.
 use Prim.Native.Nat.{ℕ}
-use mathlib.Core.Bool.{cond}
 use mathlib.Core.List.{List}
 use Rattle.vram.specs.Board.{board}
+use Rattle.vram.specs.declared.Clocked.{Clocked as VramClocked}
 use Rattle.vram.specs.Calls.{clockCall as vramClock}
 use Rattle.palette.specs.declared.Palette.{Palette}
 use Rattle.list.specs.Meaning.{Outcome, runCall}
 use Rattle.panel.specs.Panel.{widened, unwidened}
 use Rattle.panel.specs.Calls.{Outcome as PanelOutcome, runCallBy as panelRunBy}
-use Rattle.host.specs.declared.Registers.{Registers}
-use Rattle.host.specs.declared.Ran.{Ran}
+use Rattle.registers.specs.declared.Registers.{Registers}
+use Rattle.registers.specs.declared.Ran.{Ran}
+use Rattle.registers.specs.State.{handed, taking}
 use Rattle.host.specs.declared.Shown.{Shown}
 use Rattle.host.specs.declared.Clocked.{Clocked}
-use Rattle.host.specs.State.{lawful, taken, handed}
 
 -- ---- a list
 
@@ -31,14 +31,15 @@ listAnswer o =
 
 unfoldable pub listCall : Registers → List ℕ → List ℕ → List ℕ → Listed
 listCall s m q list =
-    cond (lawful s) (listAnswer (runCall list (board (taken s) m q))) (listed (record { state = s; number = 1; place = 0 }) m q)
+    taking s (λ v. listAnswer (runCall list (board v m q))) (listed (record { state = s; number = 1; place = 0 }) m q)
 
 -- ---- a serial clock
 
+abbrev pub clockAnswer : VramClocked → Clocked
+clockAnswer c = record { state = handed (c .state); word = c .word; number = c .number }
+
 unfoldable pub clockCall : Registers → List ℕ → Clocked
-clockCall s r =
-    let c = vramClock (taken s) r in
-    cond (lawful s) (record { state = handed (c .state); word = c .word; number = c .number }) (record { state = s; word = 0; number = 1 })
+clockCall s r = taking s (λ v. clockAnswer (vramClock v r)) (record { state = s; word = 0; number = 1 })
 
 -- ---- a run to the panel
 
@@ -55,7 +56,7 @@ panelAnswer o = shown (record { state = handed (o .answer .state); number = o .a
 -- by any rule of parts
 unfoldable pub panelCallBy : (ℕ → ℕ) → Registers → List ℕ → Palette → List ℕ → ℕ → ℕ → List ℕ → ShownTo
 panelCallBy parts s r p t clocks blank out =
-    cond (lawful s) (panelAnswer (panelRunBy parts (taken s) r p t clocks blank out)) (shown (record { state = s; number = 1 }) out)
+    taking s (λ v. panelAnswer (panelRunBy parts v r p t clocks blank out)) (shown (record { state = s; number = 1 }) out)
 
 -- the default: eight bits to a part
 abbrev pub panelCall : Registers → List ℕ → Palette → List ℕ → ℕ → ℕ → List ℕ → ShownTo

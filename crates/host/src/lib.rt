@@ -10,41 +10,20 @@ ghost use Rattle.panel.specs.Panel.{partAt};
 ghost use Rattle.planner.specs.Fill.{fill};
 ghost use Rattle.planner.specs.Calls.{outcome as filledOutcome, fillCall};
 ghost use Rattle.planner.specs.Paint.{listIn, Demanded};
-ghost use Rattle.host.specs.State.{handed};
+ghost use Rattle.registers.specs.State.{handed};
 ghost use Rattle.host.specs.Calls.{listed, listCall, clockCall, shown, panelCallBy, panelCall, panelSixCall};
-
-mod state;
-
 use palette::Accessed;
 use palette::Palette;
 use panel::Width;
 use planner::Filled;
-use state::hand;
-use state::lawful;
-use state::take;
+use registers::Ran;
+use registers::Registers;
+use registers::hand;
+use registers::hand_ran;
+use registers::lawful;
+use registers::take;
 use vram::Vram;
 use vram::Word;
-
-// The video RAM's registers as C has them. waiting: 0 none, 1 tap. stop: the length of a partition.
-#[repr(C)]
-pub struct Registers {
-    pub colour: u16,
-    pub mask: u16,
-    pub persistent: u8,
-    pub loaded: u8,
-    pub pointer: u8,
-    pub waiting: u8,
-    pub tap: u8,
-    pub stop: u8,
-}
-
-// The state after a list, the number given back, and the offset of the field that it is about.
-#[repr(C)]
-pub struct Ran {
-    pub state: Registers,
-    pub number: u32,
-    pub place: u64,
-}
 
 // The state after a run, and the number given back.
 #[repr(C)]
@@ -118,11 +97,7 @@ pub extern "C" fn linkshoar_list_run(
 {
     if lawful(state) {
         let ran = list::run(take(state), memory, serial, list);
-        return Ran {
-            state: hand(ran.state),
-            number: ran.number,
-            place: ran.place,
-        };
+        return hand_ran(ran);
     }
     Ran {
         state,

@@ -1,15 +1,16 @@
 -- Laws of the splitting. What stands above cites these and not the recursion. Assumes nothing.
-use mathlib.Core.Path.{_≡_, refl, sym, ap, _∙_}
+use mathlib.Core.Path.{_≡_, refl, sym, ap, ap₂, _∙_}
 use mathlib.Core.Bool.{Bool, true, false}
 use mathlib.Core.List.{List, [], _∷_, _++_}
-use Prim.Native.Nat.{ℕ, zero, suc, _+_, _≤_, _<_}
+use Prim.Native.Nat.{ℕ, zero, suc, _+_, _*_, _≤_, _<_}
 use native.Mathlib.Omega.{arith}
 use lib.Dec.{eqb, leb}
-use lib.ListN.{length, drop, length-append, length-drop, List·getD-append}
-use lib.Seq.{take-append-le, drop-append-le}
-use borrow.Author.Tests.{leb-true, le-leb, lt-leb}
+use lib.ListN.{length, getD, drop, length-append, length-drop, List·getD-append}
+use lib.Seq.{take-append-le, drop-append-le, getD-take, getD-drop}
+use borrow.Author.Tests.{leb-true, le-leb, lt-leb, eqb-true}
 use Rattle.numbers.specs.Between.{both}
-use Rattle.list.specs.Tags.{word, known, lenOf, cycleOf}
+use Rattle.list.specs.Tags.{byte, word, known, lenOf, cycleOf}
+use Rattle.list.specs.TagLaws.{len-most}
 use Rattle.list.specs.Splits.{split}
 use Rattle.list.specs.SplitLaws.{split-skip, split-nil, split-good, split-not}
 use Rattle.list.specs.Fields.{Field, Reads, Unreadable, tag, body, headed, whole, fieldOf, parts, fields}
@@ -29,6 +30,22 @@ module _ (s : List ℕ) (h : whole s ≡ true) where
 
   pub whole-known : known (tag s) ≡ true
   whole-known = both (known (tag s)) (eqb (word s 1) (lenOf (tag s))) whole-headed .0
+
+  -- its header says its body's length, which is at most ten: so the low byte says it
+  pub whole-says : byte s 2 ≡ lenOf (tag s)
+  unfolding word
+  whole-says =
+      let e : word s 1 ≡ lenOf (tag s) = eqb-true _ _ (both (known (tag s)) (eqb (word s 1) (lenOf (tag s))) whole-headed .1) in
+      omega (arith, e, len-most (tag s))
+
+  -- a number of its body, by its place in the field
+  pub body-word : (i : ℕ) → i + 1 < lenOf (tag s) → word (body s) i ≡ word s (3 + i)
+  unfolding word
+  body-word i h =
+      let e : 3 + (i + 1) ≡ 3 + i + 1 = omega arith in
+      ap₂ (λ (x y : ℕ). x * 256 + y)
+      (getD-take (lenOf (tag s)) (drop 3 s) i 0 (omega arith) ∙ getD-drop 3 s i 0)
+      (getD-take (lenOf (tag s)) (drop 3 s) (i + 1) 0 h ∙ getD-drop 3 s (i + 1) 0 ∙ ap (λ (n : ℕ). getD s n 0) e)
 
   pub field-whole : fieldOf s ≡ Reads (cycleOf (tag s) (body s)) (lenOf (tag s))
   unfolding fieldOf

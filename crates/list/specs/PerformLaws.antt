@@ -1,11 +1,13 @@
 -- An accepted list performs every field: no step passes over one. Assumes nothing.
 use mathlib.Core.Path.{_≡_, sym, ap, ap₂, _∙_}
 use mathlib.Core.Bool.{Bool}
-use mathlib.Core.List.{List, [], _∷_}
+use mathlib.Core.List.{List, [], _∷_, List·Memᴰ, List·Memᴰ·not-nil, List·Memᴰ·cases-cons}
+use mathlib.Core.Logic.{⊎-elim}
 use Prim.Native.Nat.{ℕ, _+_}
 use native.Mathlib.Omega.{arith}
 use Rattle.vram.specs.declared.Cycle.{Cycle}
 use Rattle.vram.specs.Board.{Board, effect}
+use Rattle.vram.specs.Refusal.{refusal}
 use Rattle.vram.specs.Step.{givenOf, rowsOf, number, runBy, step, run}
 use Rattle.vram.specs.StepLaws.{step-acts}
 use Rattle.vram.specs.KeptLaws.{step-loaded}
@@ -59,3 +61,19 @@ module _ (list : List ℕ) (b : Board) (h : verdictOf list b .number ≡ 0) wher
   -- what an accepted list leaves is what each of its cycles does, in order
   pub call-performs : runCall list b .after ≡ runBy effect (cyclesOf list) b
   call-performs = call-runs list b h ∙ fields-perform 0 (fields list) b list-passes
+
+-- ---- each cycle of an accepted list is one that is not refused, for the rows fitted
+
+each-accepted : (rows : ℕ) (made : Bool) (at : ℕ) (fs : List Field) → verdict rows made at fs .number ≡ 0
+    → (c : Cycle) → List·Memᴰ c (cycles fs) → (m : Bool) × (refusal rows m c ≡ 0)
+unfolding cycles numberOf
+each-accepted rows made at [] h c m = absurd (List·Memᴰ·not-nil m)
+each-accepted rows made at (Reads d n ∷ fs) h c m =
+    ⊎-elim (λ e. (made, ap (refusal rows made) e ∙ accepted-head rows made at (Reads d n) fs h))
+    (each-accepted rows (madeBy (Reads d n) made) (at + sizeOf (Reads d n)) fs (accepted-tail rows made at (Reads d n) fs h) c)
+    (List·Memᴰ·cases-cons m)
+each-accepted rows made at (Unreadable ∷ fs) h c m = absurd (omega (arith, accepted-head rows made at Unreadable fs h))
+
+pub accepted-cycle : (list : List ℕ) (b : Board) → verdictOf list b .number ≡ 0
+    → (c : Cycle) → List·Memᴰ c (cyclesOf list) → (made : Bool) × (refusal (rowsOf b) made c ≡ 0)
+accepted-cycle list b h = each-accepted (rowsOf b) (b .state .loaded) 0 (fields list) (accepted-fields list b h)

@@ -9,6 +9,7 @@ use lib.Dec.{eqb, leb}
 use borrow.Author.Tests.{leb-true, le-leb, lt-leb, ne-eqb, eqb-true}
 use Rattle.numbers.specs.Between.{both}
 use Rattle.refusals.specs.Refusal.{writeRefusal, loadRefusal, fullRefusal, splitRefusal, stopRefusal}
+use Rattle.vram.specs.declared.Cycle.the-variants.{WordWrite, BlockWrite}
 use Rattle.vram.specs.Refusal.{refusal}
 use Rattle.vram.specs.Kinds.{tagOf, loads}
 use Rattle.list.specs.Tags.{byte, word, known, lenOf, cycleOf}
@@ -43,6 +44,21 @@ len-transfer t h k =
 pub len-stop : (t : ℕ) → t ≡ 9 → lenOf t ≡ 1
 unfolding lenOf
 len-stop t e = rw e
+
+-- ---- a tag that is known is none of 0, and 1 and 2 are the writes
+
+pub known-some : (t : ℕ) → known t ≡ true → 1 ≤ t
+unfolding known
+known-some zero h = absurd (true≢false (sym h))
+known-some (suc t) h = omega arith
+
+pub cycle-one : (b : List ℕ) → cycleOf 1 b ≡ WordWrite (word b 0) (word b 2) (word b 4) (byte b 6) (word b 7) (byte b 9)
+unfolding cycleOf
+cycle-one b = refl
+
+pub cycle-two : (b : List ℕ) → cycleOf 2 b ≡ BlockWrite (word b 0) (word b 2) (word b 4) (byte b 6) (word b 7) (byte b 9)
+unfolding cycleOf
+cycle-two b = refl
 
 -- ---- what refuses the cycle of a body, by its tag
 

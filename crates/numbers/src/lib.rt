@@ -1,4 +1,4 @@
-// The numbers given back: document 01, "Numbers given back"; 16 and 17 are change request M-100's, 19 is M-107's, 20 is M-111's. Each
+// The numbers given back: document 01, "Numbers given back"; 16 and 17 are change request M-100's, 18 is M-104's, 19 is M-107's, 20 is M-111's. Each
 // call answers one of them; 0 is done, and of several that hold the lowest is given.
 ghost use mathlib.Core.Path.{_≡_};
 ghost use Rattle.numbers.specs.Refuse.{refuse};
@@ -38,6 +38,8 @@ pub const BUFFER_SHORT: u32 = 15;
 pub const SETTING_OTHER: u32 = 16;
 
 pub const VIDEO_OFF_OR_OVERRIDE: u32 = 17;
+
+pub const MARKS_LENGTH: u32 = 18;
 
 pub const PARTITION_OTHER: u32 = 19;
 

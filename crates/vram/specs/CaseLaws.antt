@@ -1,22 +1,24 @@
 -- The definitions case by case, so that other crates need not open them. Assumes nothing.
-use mathlib.Core.Path.{_≡_, refl, ap, _∙_}
-use mathlib.Core.Bool.{Bool, true, false, _||_, cond}
+use mathlib.Core.Path.{_≡_, refl, sym, ap, _∙_, subst}
+use mathlib.Core.Bool.{Bool, true, false, _||_, cond, true≢false}
 use mathlib.Core.List.{List, [], _∷_}
 use mathlib.Core.Logic.{_≢_, inl, ⊎-elim}
 use Prim.Native.Nat.{ℕ, _/_, _≤_, _<_}
+use native.Mathlib.Omega.{arith}
 use lib.Dec.{eqb}
+use borrow.Author.Tests.{eqb-true}
 use Rattle.numbers.specs.RefuseLaws.{firstOf-later}
 use Rattle.vram.specs.declared.Cycle.{Cycle}
 use Rattle.vram.specs.declared.Cycle.the-variants.{WordWrite, BlockWrite, LoadColour, LoadMask, ResetRefresh, FullTransfer, SplitTransfer, StopPoints}
 use Rattle.vram.specs.Board.{Board}
 use Rattle.refusals.specs.Refusal.{refusing, writeRefusal, loadRefusal, fullRefusal, splitRefusal, stopRefusal}
 use Rattle.vram.specs.Refusal.{refusal}
-use Rattle.refusals.specs.RefusalLaws.{masked-write, Range, write-among, load-among, full-among, split-among, stop-among}
+use Rattle.refusals.specs.RefusalLaws.{write-zero, masked-write, Range, write-among, load-among, full-among, split-among, stop-among}
 use Rattle.vram.specs.Step.{givenOf, rowsOf, number, Engine, runBy, step, run}
 use Rattle.vram.specs.StepLaws.{run-holds}
 use Rattle.vram.specs.RuleLaws.{step-sized, run-sized, step-given}
 use Rattle.vram.specs.Calls.{cycleCall}
-use Rattle.vram.specs.Kinds.{tagOf, loads, persists}
+use Rattle.vram.specs.Kinds.{tagOf, targetOf, names, loads, persists}
 
 -- ---- a cycle's call leaves what a step leaves
 
@@ -160,3 +162,38 @@ loads-tag c made = refl
 pub persists-tag : (c : Cycle) (before : Bool) → persists c before ≡ cond (eqb (tagOf c) 4) true (cond (eqb (tagOf c) 5) false before)
 unfolding persists
 persists-tag c before = refl
+
+-- ---- the row that a write names; no other cycle names one
+
+pub names-word : (r row column word masking mask strobes : ℕ) → names r (WordWrite row column word masking mask strobes) ≡ eqb row r
+unfolding names targetOf
+names-word r row column word masking mask strobes = refl
+
+pub names-block : (r row column columns masking mask strobes : ℕ) → names r (BlockWrite row column columns masking mask strobes) ≡ eqb row r
+unfolding names targetOf
+names-block r row column columns masking mask strobes = refl
+
+pub names-other : (r : ℕ) (c : Cycle) → 2 < tagOf c → names r c ≡ false
+unfolding names targetOf tagOf
+names-other r (WordWrite row column word masking mask strobes) h = absurd (omega arith)
+names-other r (BlockWrite row column columns masking mask strobes) h = absurd (omega arith)
+names-other r (LoadColour word strobes) h = refl
+names-other r (LoadMask word strobes) h = refl
+names-other r ResetRefresh h = refl
+names-other r (FullTransfer row half tap) h = refl
+names-other r (SplitTransfer row half tap) h = refl
+names-other r (StopPoints length) h = refl
+
+-- a write that is not refused names a row that is fitted
+pub names-fitted : (rows : ℕ) (made : Bool) (r : ℕ) (c : Cycle) → names r c ≡ true → refusal rows made c ≡ 0 → r < rows
+unfolding names targetOf refusal
+names-fitted rows made r (WordWrite row column word masking mask strobes) e z =
+    subst (λ (n : ℕ). n < rows) (eqb-true row r e) (write-zero rows row column masking mask strobes z .row-fitted)
+names-fitted rows made r (BlockWrite row column columns masking mask strobes) e z =
+    subst (λ (n : ℕ). n < rows) (eqb-true row r e) (write-zero rows row column masking mask strobes z .row-fitted)
+names-fitted rows made r (LoadColour word strobes) e z = absurd (true≢false (sym e))
+names-fitted rows made r (LoadMask word strobes) e z = absurd (true≢false (sym e))
+names-fitted rows made r ResetRefresh e z = absurd (true≢false (sym e))
+names-fitted rows made r (FullTransfer row half tap) e z = absurd (true≢false (sym e))
+names-fitted rows made r (SplitTransfer row half tap) e z = absurd (true≢false (sym e))
+names-fitted rows made r (StopPoints length) e z = absurd (true≢false (sym e))

@@ -14,8 +14,8 @@ take-requires c κs = search needs
 run-requires : tie.Need-run-requires
 run-requires c κs = search needs
 
-hand-requires : tie.Need-hand-requires
-hand-requires c κs = search needs
+hand-ran-requires : tie.Need-hand-ran-requires
+hand-ran-requires c κs = search needs
 
 same-length : tie.Need-same-length
 same-length c = search needs
@@ -29,8 +29,8 @@ returns c =
     let t = r .before .before .before in
     let l = t .before .before in
     let a = l .before .before .before .before .args in
-    list-done (a .state) (sym (l .lawful .ensures) ∙ t .before .if1 .taken) (t .take .result) (t .take .ensures) (c .hand .result)
-    (a .memory .now) (a .serial .now) (a .list .now) (r .run .result) (r .run .last .1 .0) (r .run .last .1 .1 .0) (r .run .ensures) (c .hand .ensures)
+    list-done (a .state) (sym (l .lawful .ensures) ∙ t .before .if1 .taken) (t .take .result) (t .take .ensures)
+    (a .memory .now) (a .serial .now) (a .list .now) (r .run .result) (r .run .last .1 .0) (r .run .last .1 .1 .0) (r .run .ensures) (c .hand-ran .result) (c .hand-ran .ensures)
 
 returns-2 : tie.Need-returns-2
 returns-2 c =
@@ -44,7 +44,7 @@ linkshoar-list-run-spec =
     lawful-requires
     take-requires
     run-requires
-    hand-requires
+    hand-ran-requires
     same-length
     same-length-2
     returns

@@ -23,8 +23,8 @@ returns c =
     let t = r .before in
     let l = t .before .before in
     let a = l .before .before .args in
-    clock-done (a .state) (sym (l .lawful .ensures) ∙ t .before .if1 .taken) (t .take .result) (t .take .ensures) (c .hand .result)
-    (a .serial .now) (r .clock .result) (r .clock .ensures) (c .hand .ensures)
+    clock-done (a .state) (sym (l .lawful .ensures) ∙ t .before .if1 .taken) (t .take .result) (t .take .ensures)
+    (a .serial .now) (r .clock .result) (r .clock .ensures) (c .hand .result) (c .hand .ensures)
 
 returns-2 : tie.Need-returns-2
 returns-2 c =

@@ -1,7 +1,7 @@
 -- `host::linkshoar_vram_fresh` meets its contract. Assumes nothing.
 use borrow.Author.Needs.{needs}
 use mathlib.Core.Path.{ap, _∙_}
-use Rattle.host.specs.State.{handed}
+use Rattle.registers.specs.State.{handed}
 use Rattle.host.proofs.linkshoar_vram_fresh.Statement.{statement}
 use Rattle.host.proofs.linkshoar_vram_fresh.Tie as tie
 

@@ -27,8 +27,8 @@ returns c =
     let t = r .before .before in
     let l = t .before .before in
     let a = l .before .before .before .before .args in
-    panel-done (a .state) (sym (l .lawful .ensures) ∙ t .before .if1 .taken) (t .take .result) (t .take .ensures) (c .hand .result)
-    (partAt (a .width)) (a .serial .now) (a .palette) (a .table .now) (a .clocks) (a .blank) (a .out .now) (r .run-at .result) (r .run-at .last .1 .1 .1 .1 .1 .1 .1 .0) (r .run-at .ensures) (c .hand .ensures)
+    panel-done (a .state) (sym (l .lawful .ensures) ∙ t .before .if1 .taken) (t .take .result) (t .take .ensures)
+    (partAt (a .width)) (a .serial .now) (a .palette) (a .table .now) (a .clocks) (a .blank) (a .out .now) (r .run-at .result) (r .run-at .last .1 .1 .1 .1 .1 .1 .1 .0) (r .run-at .ensures) (c .hand .result) (c .hand .ensures)
 
 returns-2 : tie.Need-returns-2
 returns-2 c =

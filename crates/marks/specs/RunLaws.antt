@@ -1,0 +1,196 @@
+-- What marked runs mark, and what they leave alone: change request M-104. Assumes nothing.
+use mathlib.Core.Path.{_≡_, refl, sym, ap, _∙_, subst}
+use mathlib.Core.Bool.{Bool, true, false, _||_, cond, true≢false}
+use mathlib.Core.List.{List, [], _∷_, _++_, List·Memᴰ, List·Memᴰ·head, List·Memᴰ·tail}
+use mathlib.Core.Logic.{_≢_}
+use Prim.Native.Nat.{ℕ, _+_, _*_, _/_, _≤_, _<_}
+use native.Mathlib.Omega.{arith}
+use native.Mathlib.Decide.{ℕ-discrete}
+use lib.ListN.{length, getD, length-replicate}
+use Rattle.numbers.specs.RefuseLaws.{leaves-made, leaves-before}
+use Rattle.vram.specs.declared.Cycle.{Cycle}
+use Rattle.vram.specs.Board.{Board, effect}
+use Rattle.vram.specs.Step.{step, runBy, run}
+use Rattle.vram.specs.Kinds.{names}
+use Rattle.vram.specs.Writes.{rowOf}
+use Rattle.vram.specs.RuleLaws.{step-row, run-sized}
+use Rattle.vram.specs.CaseLaws.{run-none, run-next, names-fitted}
+use Rattle.list.specs.declared.Bad.{Bad}
+use Rattle.list.specs.Meaning.{cyclesOf, verdictOf as listVerdict}
+use Rattle.list.specs.CallLaws.{call-runs}
+use Rattle.list.specs.PerformLaws.{call-performs, accepted-cycle}
+use Rattle.marks.specs.Marks.{isMarked, noMarks, markedByAll, namedIn}
+use Rattle.marks.specs.MarkLaws.{all-length, all-marks, none-marked}
+use Rattle.marks.specs.Calls.{Outcome, verdictOf, clearCall}
+use Rattle.marks.specs.CallLaws.{verdict-zero, run-given-by, run-refuses-by, run-runs-by, clear-clears}
+use Rattle.marks.specs.Runs.{Run, Drawn, drawn, boardOf, callOf, ran, after, ranAll, afterAll, since}
+
+-- ---- cycles and rows
+
+neither : (p q : Bool) → (p || q) ≡ false → (p ≡ false) × (q ≡ false)
+neither true q e = absurd (true≢false e)
+neither false q e = (refl, e)
+
+pub named-append : (q : ℕ) (l k : List Cycle) → namedIn q (l ++ k) ≡ (namedIn q l || namedIn q k)
+unfolding namedIn
+named-append q [] k = refl
+named-append q (c ∷ l) k = go (names q c) (named-append q l k)
+  where
+    go : (t : Bool) → namedIn q (l ++ k) ≡ (namedIn q l || namedIn q k) → (t || namedIn q (l ++ k)) ≡ ((t || namedIn q l) || namedIn q k)
+    go true e = refl
+    go false e = e
+
+-- a row that no write names holds the words that it held
+pub run-row : (q : ℕ) (l : List Cycle) (b : Board) → namedIn q l ≡ false → rowOf q (run l b .memory) ≡ rowOf q (b .memory)
+unfolding namedIn
+run-row q [] b h = ap (λ (x : Board). rowOf q (x .memory)) (run-none step b)
+run-row q (c ∷ l) b h =
+    let n = neither (names q c) (namedIn q l) h in
+    ap (λ (x : Board). rowOf q (x .memory)) (run-next step c l b) ∙ run-row q l (step c b) (n .1) ∙ step-row q c b (n .0)
+
+-- ---- one run
+
+module _ (r : Run) (d : Drawn) where
+  abbrev verdict : Bad
+  verdict = verdictOf (r .list) (boardOf r d) (length (d .marks))
+
+  ran-accepted : verdict .number ≡ 0 → ran r d ≡ cyclesOf (r .list)
+  unfolding ran
+  ran-accepted z = leaves-made _ [] (cyclesOf (r .list)) (ap (λ (v : Bad). v .number) (run-given-by effect (r .list) (boardOf r d) (d .marks)) ∙ z)
+
+  ran-refused : verdict .number ≢ 0 → ran r d ≡ []
+  unfolding ran
+  ran-refused n = leaves-before _ [] (cyclesOf (r .list)) (λ z. n (sym (ap (λ (v : Bad). v .number) (run-given-by effect (r .list) (boardOf r d) (d .marks))) ∙ z))
+
+  -- each of the cycles that have run has had its effect, in order, and nothing else has drawn: so `ran` is what the rules call run
+  pub ran-performs : callOf r d .after ≡ runBy effect (ran r d) (boardOf r d)
+  ran-performs = elim (ℕ-discrete (verdict .number) 0) [
+    | yes z ↦
+        let a = verdict-zero (r .list) (boardOf r d) (length (d .marks)) z .1 in
+        ap (λ (o : Outcome). o .after) (run-runs-by effect (r .list) (boardOf r d) (d .marks) z)
+        ∙ sym (call-runs (r .list) (boardOf r d) a)
+        ∙ call-performs (r .list) (boardOf r d) a
+        ∙ sym (ap (λ (l : List Cycle). runBy effect l (boardOf r d)) (ran-accepted z))
+    | no n ↦
+        ap (λ (o : Outcome). o .after) (run-refuses-by effect (r .list) (boardOf r d) (d .marks) n)
+        ∙ sym (ap (λ (l : List Cycle). runBy effect l (boardOf r d)) (ran-refused n) ∙ run-none effect (boardOf r d))
+  ]
+
+  -- the marks are those of the cycles that have run, and the memory is what these leave
+  pub after-ran : after r d ≡ drawn (run (ran r d) (boardOf r d) .memory) (markedByAll (ran r d) (d .marks))
+  unfolding after markedByAll
+  after-ran = elim (ℕ-discrete (verdict .number) 0) [
+    | yes z ↦
+        ap (λ (o : Outcome). drawn (o .after .memory) (o .marks)) (run-runs-by effect (r .list) (boardOf r d) (d .marks) z)
+        ∙ sym (ap (λ (l : List Cycle). drawn (run l (boardOf r d) .memory) (markedByAll l (d .marks))) (ran-accepted z))
+    | no n ↦
+        ap (λ (o : Outcome). drawn (o .after .memory) (o .marks)) (run-refuses-by effect (r .list) (boardOf r d) (d .marks) n)
+        ∙ sym (ap (λ (l : List Cycle). drawn (run l (boardOf r d) .memory) (markedByAll l (d .marks))) (ran-refused n)
+        ∙ ap (λ (b : Board). drawn (b .memory) (d .marks)) (run-none step (boardOf r d)))
+  ]
+
+  pub after-marks-length : length (after r d .marks) ≡ length (d .marks)
+  after-marks-length = ap (λ (x : Drawn). length (x .marks)) after-ran ∙ all-length (ran r d) (d .marks)
+
+  pub after-memory-length : length (after r d .memory) ≡ length (d .memory)
+  after-memory-length = ap (λ (x : Drawn). length (x .memory)) after-ran ∙ run-sized (ran r d) (boardOf r d) .memory
+
+-- ---- any number of runs
+
+pub all-marks-length : (rs : List Run) (d : Drawn) → length (afterAll rs d .marks) ≡ length (d .marks)
+unfolding afterAll
+all-marks-length [] d = refl
+all-marks-length (r ∷ rs) d = all-marks-length rs (after r d) ∙ after-marks-length r d
+
+pub all-memory-length : (rs : List Run) (d : Drawn) → length (afterAll rs d .memory) ≡ length (d .memory)
+unfolding afterAll
+all-memory-length [] d = refl
+all-memory-length (r ∷ rs) d = all-memory-length rs (after r d) ∙ after-memory-length r d
+
+-- a mark is set exactly where a word or block write that names its row has run, or where it was set before
+pub runs-mark : (rs : List Run) (d : Drawn) (q : ℕ) → q / 8 < length (d .marks)
+    → isMarked (afterAll rs d .marks) q ≡ (namedIn q (ranAll rs d) || isMarked (d .marks) q)
+unfolding afterAll ranAll namedIn
+runs-mark [] d q h = refl
+runs-mark (r ∷ rs) d q h =
+    runs-mark rs (after r d) q (rw (after-marks-length r d) h)
+    ∙ ap (λ (t : Bool). namedIn q (ranAll rs (after r d)) || t)
+    (ap (λ (x : Drawn). isMarked (x .marks) q) (after-ran r d) ∙ all-marks (ran r d) (d .marks) q h)
+    ∙ shuffle (namedIn q (ran r d)) (namedIn q (ranAll rs (after r d))) (isMarked (d .marks) q)
+    ∙ ap (λ (t : Bool). t || isMarked (d .marks) q) (sym (named-append q (ran r d) (ranAll rs (after r d))))
+  where
+    shuffle : (p q r : Bool) → (q || (p || r)) ≡ ((p || q) || r)
+    shuffle true true r = refl
+    shuffle true false r = refl
+    shuffle false q r = refl
+
+-- a row that no write names that has run holds the words that it held
+pub runs-row : (rs : List Run) (d : Drawn) (q : ℕ) → namedIn q (ranAll rs d) ≡ false → rowOf q (afterAll rs d .memory) ≡ rowOf q (d .memory)
+unfolding afterAll ranAll
+runs-row [] d q h = refl
+runs-row (r ∷ rs) d q h =
+    let n = neither (namedIn q (ran r d)) (namedIn q (ranAll rs (after r d))) (sym (named-append q (ran r d) (ranAll rs (after r d))) ∙ h) in
+    runs-row rs (after r d) q (n .1)
+    ∙ ap (λ (x : Drawn). rowOf q (x .memory)) (after-ran r d)
+    ∙ run-row q (ran r d) (boardOf r d) (n .0)
+
+-- ---- what is named is fitted
+
+named-some : (q : ℕ) (l : List Cycle) → namedIn q l ≡ true → (c : Cycle) × List·Memᴰ c l × (names q c ≡ true)
+unfolding namedIn
+named-some q [] e = absurd (true≢false (sym e))
+named-some q (c ∷ l) e = go (names q c) refl (named-some q l) e
+  where
+    go : (t : Bool) → names q c ≡ t → (namedIn q l ≡ true → (d : Cycle) × List·Memᴰ d l × (names q d ≡ true)) → (t || namedIn q l) ≡ true
+        → (d : Cycle) × List·Memᴰ d (c ∷ l) × (names q d ≡ true)
+    go true n ih e = (c, List·Memᴰ·head refl, n)
+    go false n ih e = let r = ih e in (r .0, List·Memᴰ·tail (r .1), r .2)
+
+ran-fitted : (r : Run) (d : Drawn) (q : ℕ) → namedIn q (ran r d) ≡ true → q < length (d .memory) / 512
+unfolding namedIn
+ran-fitted r d q e = elim (ℕ-discrete (verdict r d .number) 0) [
+  | yes z ↦
+      let s = named-some q (cyclesOf (r .list)) (ap (namedIn q) (sym (ran-accepted r d z)) ∙ e) in
+      let a = accepted-cycle (r .list) (boardOf r d) (verdict-zero (r .list) (boardOf r d) (length (d .marks)) z .1) (s .0) (s .1) in
+      names-fitted (length (d .memory) / 512) (a .0) q (s .0) (s .2) (a .1)
+  | no n ↦ absurd (true≢false (sym e ∙ ap (namedIn q) (ran-refused r d n)))
+]
+
+pub runs-fitted : (rs : List Run) (d : Drawn) (q : ℕ) → namedIn q (ranAll rs d) ≡ true → q < length (d .memory) / 512
+unfolding ranAll namedIn
+runs-fitted [] d q e = absurd (true≢false (sym e))
+runs-fitted (r ∷ rs) d q e = go (namedIn q (ran r d)) refl (runs-fitted rs (after r d) q) (sym (named-append q (ran r d) (ranAll rs (after r d))) ∙ e)
+  where
+    go : (t : Bool) → namedIn q (ran r d) ≡ t → (namedIn q (ranAll rs (after r d)) ≡ true → q < length (after r d .memory) / 512)
+        → (t || namedIn q (ranAll rs (after r d))) ≡ true → q < length (d .memory) / 512
+    go true n ih f = ran-fitted r d q n
+    go false n ih f = subst (λ (k : ℕ). q < k / 512) (after-memory-length r d) (ih f)
+
+-- ---- since the clearing
+
+module _ (marks : List ℕ) (e : length marks ≡ 64) (rs : List Run) (memory : List ℕ) where
+  clean : clearCall marks .marks ≡ noMarks
+  clean = ap (λ c. c .marks) (clear-clears marks e)
+
+  pub since-length : length (afterAll rs (since marks memory) .marks) ≡ 64
+  since-length = all-marks-length rs (since marks memory) ∙ ap length clean
+
+  -- a row is marked exactly where a word or block write that names it has run since
+  pub marked-since : (q : ℕ) → q ≤ 511 → isMarked (afterAll rs (since marks memory) .marks) q ≡ namedIn q (ranAll rs (since marks memory))
+  marked-since q h =
+      runs-mark rs (since marks memory) q (rw clean (omega arith))
+      ∙ ap (λ (t : Bool). namedIn q (ranAll rs (since marks memory)) || t) (ap (λ (m : List ℕ). isMarked m q) clean ∙ none-marked q)
+      ∙ either (namedIn q (ranAll rs (since marks memory)))
+    where
+      either : (p : Bool) → (p || false) ≡ p
+      either true = refl
+      either false = refl
+
+  -- a row that is not marked holds the words that it held at the clearing, all 512 of them
+  pub unmarked-holds : (q : ℕ) → q ≤ 511 → isMarked (afterAll rs (since marks memory) .marks) q ≡ false
+      → rowOf q (afterAll rs (since marks memory) .memory) ≡ rowOf q memory
+  unmarked-holds q h u = runs-row rs (since marks memory) q (sym (marked-since q h) ∙ u)
+
+  -- and only rows that are fitted are marked
+  pub marked-fitted : (q : ℕ) → q ≤ 511 → isMarked (afterAll rs (since marks memory) .marks) q ≡ true → q < length memory / 512
+  marked-fitted q h u = runs-fitted rs (since marks memory) q (sym (marked-since q h) ∙ u)

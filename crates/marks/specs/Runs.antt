@@ -1,0 +1,52 @@
+-- Marked runs one after the other, accepted and refused, each on the memory and the marks that the one before left. Assumes nothing.
+use Prim.Native.Nat.{ℕ}
+use mathlib.Core.List.{List, [], _∷_, _++_}
+use Rattle.numbers.specs.Refuse.{leaves}
+use Rattle.vram.specs.declared.Vram.{Vram}
+use Rattle.vram.specs.declared.Cycle.{Cycle}
+use Rattle.vram.specs.Board.{Board, board}
+use Rattle.list.specs.Meaning.{cyclesOf}
+use Rattle.marks.specs.Calls.{Outcome, runCall, clearCall}
+
+-- a run, with all that it is given beside memory and marks: any state and serial register, so that any calls that do not draw may stand
+-- between it and the run before
+pub record Run : Type 0 where
+  pub state : Vram
+  pub serial : List ℕ
+  pub list : List ℕ
+
+-- what it draws on
+pub record Drawn : Type 0 where
+  pub memory : List ℕ
+  pub marks : List ℕ
+
+abbrev pub drawn : List ℕ → List ℕ → Drawn
+drawn memory marks = record { memory = memory; marks = marks }
+
+abbrev pub boardOf : Run → Drawn → Board
+boardOf r d = board (r .state) (d .memory) (r .serial)
+
+abbrev pub callOf : Run → Drawn → Outcome
+callOf r d = runCall (r .list) (boardOf r d) (d .marks)
+
+-- the cycles that have run: all of an accepted list, none of a refused one
+unfoldable pub ran : Run → Drawn → List Cycle
+ran r d = leaves (callOf r d .given .number) [] (cyclesOf (r .list))
+
+-- what it leaves
+unfoldable pub after : Run → Drawn → Drawn
+after r d = drawn (callOf r d .after .memory) (callOf r d .marks)
+
+-- ---- runs in order
+
+unfoldable pub ranAll : List Run → Drawn → List Cycle
+ranAll [] d = []
+ranAll (r ∷ rs) d = ran r d ++ ranAll rs (after r d)
+
+unfoldable pub afterAll : List Run → Drawn → Drawn
+afterAll [] d = d
+afterAll (r ∷ rs) d = afterAll rs (after r d)
+
+-- a memory, and marks that have just been cleared
+abbrev pub since : List ℕ → List ℕ → Drawn
+since marks memory = drawn memory (clearCall marks .marks)

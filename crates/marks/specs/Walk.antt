@@ -1,0 +1,30 @@
+-- The rows that a link visits that goes from marked row to marked row by `next`. Assumes nothing.
+use Prim.Native.Nat.{ℕ, zero, suc, _+_}
+use mathlib.Core.Bool.{cond}
+use mathlib.Core.List.{List, [], _∷_}
+use lib.Dec.{eqb}
+use Rattle.words.specs.Bit.{digit}
+use Rattle.marks.specs.declared.Found.{Found}
+use Rattle.marks.specs.declared.Found.the-variants.{None, Row}
+use Rattle.marks.specs.Marks.{isMarked}
+use Rattle.marks.specs.Calls.{nextCall}
+
+-- a row that is found is visited, and the search goes on from the row after it; where none is found the link is done
+abbrev pub goesOn : Found → (ℕ → List ℕ) → List ℕ
+goesOn None from = []
+goesOn (Row r) from = r ∷ from (suc r)
+
+-- the loop: k calls of `next` at most, the first from a start row. After row 511 it asks for row 512, which is refused: none is found
+unfoldable pub visited : List ℕ → ℕ → ℕ → List ℕ
+visited marks zero start = []
+visited marks (suc k) start = goesOn (nextCall marks start .found) (visited marks k)
+
+-- the marked ones of n rows from r on, in order
+unfoldable pub markedRows : List ℕ → ℕ → ℕ → List ℕ
+markedRows marks r zero = []
+markedRows marks r (suc n) = cond (isMarked marks r) (r ∷ markedRows marks (suc r) n) (markedRows marks (suc r) n)
+
+-- how often a row stands in a list of rows
+unfoldable pub times : ℕ → List ℕ → ℕ
+times q [] = 0
+times q (r ∷ rows) = digit (eqb r q) + times q rows

@@ -1,0 +1,34 @@
+-- What each export answers and leaves: what the call below does, with the state handed back; 1 where no `Vram` can be so. Assumes nothing.
+use Prim.Native.Nat.{ℕ}
+use mathlib.Core.List.{List}
+use Rattle.vram.specs.Board.{board}
+use Rattle.registers.specs.declared.Registers.{Registers}
+use Rattle.registers.specs.declared.Ran.{Ran}
+use Rattle.registers.specs.State.{handed, taking}
+use Rattle.marks.specs.declared.Marked.{Marked as Below}
+use Rattle.marks.specs.Calls.{Outcome, runCall, answered}
+use Rattle.marks_c.specs.declared.Marked.{Marked}
+
+-- ---- a list with marks
+
+pub record Listed : Type 0 where
+  pub answer : Ran
+  pub memory : List ℕ
+  pub serial : List ℕ
+  pub marks : List ℕ
+
+abbrev pub listed : Ran → List ℕ → List ℕ → List ℕ → Listed
+listed r m q marks = record { answer = r; memory = m; serial = q; marks = marks }
+
+abbrev pub listAnswer : Outcome → Listed
+listAnswer o =
+    listed (record { state = handed (o .after .state); number = o .given .number; place = o .given .place }) (o .after .memory) (o .after .serial) (o .marks)
+
+unfoldable pub markedCall : Registers → List ℕ → List ℕ → List ℕ → List ℕ → Listed
+markedCall s m q marks list =
+    taking s (λ v. listAnswer (runCall list (board v m q) marks)) (listed (record { state = s; number = 1; place = 0 }) m q marks)
+
+-- ---- the next marked row: its number and values
+
+unfoldable pub handedNext : Below → Marked
+handedNext m = let v = answered m in record { number = v .number; found = v .found; row = v .row }

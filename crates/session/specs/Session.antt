@@ -1,0 +1,26 @@
+-- The calls that take the video RAM's state from C and hand it back, one after the other. Assumes nothing.
+use Prim.Native.Nat.{ℕ}
+use mathlib.Core.List.{List, [], _∷_}
+use Rattle.palette.specs.declared.Palette.{Palette}
+use Rattle.registers.specs.declared.Registers.{Registers}
+use Rattle.marks_c.specs.Calls.{markedCall}
+use Rattle.host.specs.Calls.{listCall, clockCall, panelCallBy}
+
+-- each with all that it is given and lent beside the state: of what the call before left nothing is asked
+pub data Call : Type 0 where
+  list : (memory serial bytes : List ℕ) → Call
+  marked : (memory serial marks bytes : List ℕ) → Call
+  clock : (serial : List ℕ) → Call
+  panel : (parts : ℕ → ℕ) (serial : List ℕ) (palette : Palette) (table : List ℕ) (clocks blank : ℕ) (out : List ℕ) → Call
+
+-- the state of its answer, refused or not
+abbrev pub after : Call → Registers → Registers
+after (list memory serial bytes) s = listCall s memory serial bytes .answer .state
+after (marked memory serial marks bytes) s = markedCall s memory serial marks bytes .answer .state
+after (clock serial) s = clockCall s serial .state
+after (panel parts serial palette table clocks blank out) s = panelCallBy parts s serial palette table clocks blank out .answer .state
+
+-- each takes the state of the answer before
+abbrev pub session : List Call → Registers → Registers
+session [] s = s
+session (c ∷ cs) s = session cs (after c s)
