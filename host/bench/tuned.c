@@ -157,11 +157,8 @@ static void write_block(uint16_t *block, uint64_t colours, uint64_t columns, uin
     memcpy(block, &old, 8);
 }
 
-#define INLINE static inline __attribute__((always_inline))
-
-/* A list, with marks where there are any: the compiler makes one of each. */
-INLINE linkshoar_ran run_list(linkshoar_vram state, uint16_t *memory, size_t words, uint16_t *serial, size_t serial_words, uint8_t *marks,
-                              size_t marks_bytes, const uint8_t *list, size_t length)
+linkshoar_ran linkshoar_list_run(linkshoar_vram state, uint16_t *memory, size_t words, uint16_t *serial, size_t serial_words,
+                                 const uint8_t *list, size_t length)
 {
     linkshoar_ran r = {state, 0, 0};
     if (vram_bad(state))
@@ -170,8 +167,6 @@ INLINE linkshoar_ran run_list(linkshoar_vram state, uint16_t *memory, size_t wor
         r.number = 2;
     else if (serial_words != 256)
         r.number = 3;
-    else if (marks_bytes != 64)
-        r.number = 18;
     else if (length)
         r.number = check(list, length, (uint32_t)(words / 512), state.loaded, &r.place);
     if (r.number || !length)
@@ -181,10 +176,7 @@ INLINE linkshoar_ran run_list(linkshoar_vram state, uint16_t *memory, size_t wor
     for (const uint8_t *f = list, *end = list + length; f != end;) {
         if (f[0] <= 2) {
             uint64_t b = eight(f + 5);
-            unsigned named = two(f + 3);
-            uint16_t *row = memory + 512 * named;
-            if (marks && (FAULT != 16 || f[0] == 2))
-                marks[named / 8] |= (uint8_t)(1u << named % 8);
+            uint16_t *row = memory + 512 * two(f + 3);
             unsigned column = (unsigned)(b >> 48), value = (uint16_t)(b >> 32), allow = covered[b & 3];
             if (b >> 24 & 1)
                 allow &= s.persistent ? s.mask : (unsigned)(b >> 8);
@@ -224,18 +216,22 @@ INLINE linkshoar_ran run_list(linkshoar_vram state, uint16_t *memory, size_t wor
     return r;
 }
 
-linkshoar_ran linkshoar_list_run(linkshoar_vram state, uint16_t *memory, size_t words, uint16_t *serial, size_t serial_words,
-                                 const uint8_t *list, size_t length)
-{
-    return run_list(state, memory, words, serial, serial_words, NULL, 64, list, length);
-}
+/* ---- marks of rows */
 
 linkshoar_ran linkshoar_list_run_marked(linkshoar_vram state, uint16_t *memory, size_t words, uint16_t *serial, size_t serial_words,
                                         uint8_t *marks, size_t marks_bytes, const uint8_t *list, size_t length)
 {
-    linkshoar_ran r = run_list(state, memory, words, serial, serial_words, marks, marks_bytes, list, length);
-    if (FAULT == 17 && r.number > 3 && r.number != 18 && length && list[0] <= 2)
-        marks[0] |= 1;
+    if (marks_bytes != 64 && !vram_bad(state) && words >= 512 && words <= 262144 && words % 512 == 0 && serial_words == 256) {
+        linkshoar_ran refused = {state, 18, 0};
+        return refused;
+    }
+    linkshoar_ran r = linkshoar_list_run(state, memory, words, serial, serial_words, list, length);
+    size_t end = r.number ? FAULT == 17 && marks_bytes == 64 ? r.place : 0 : length;
+    for (const uint8_t *f = list, *past = end ? list + end : list; f != past; f += 3 + f[2])
+        if (f[0] <= 2 && (FAULT != 16 || f[0] == 2)) {
+            unsigned row = two(f + 3);
+            marks[row / 8] |= (uint8_t)(1u << row % 8);
+        }
     return r;
 }
 
@@ -275,6 +271,8 @@ static inline uint8_t *put(uint8_t *at, uint64_t first, uint64_t last)
     put_eight(at, first);
     return at + 13;
 }
+
+#define INLINE static inline __attribute__((always_inline))
 
 /* What a rectangle that is not refused comes to. */
 typedef struct {

@@ -16,6 +16,8 @@ enum { HIV = 64, HBS = 100, HCV = 136, SYPHILIS = 172, CMV = 208, LEGEND = 272 }
 enum { CELL = 292, VALUE = 300 };                                                 /* the columns where a value's cell and its letters begin */
 enum { DARK = 0, AMBER = 1, GREEN = 2, LABEL = 3, RESULT = 4, TITLE = 5, LINE = 6 }; /* palette entries */
 
+#define PICTURE 0x1FECEB32u /* the check sum of the pixels of docs/page.png */
+
 enum { MOST_RECTANGLES = 2000, MOST_LIST = 2 * LINKSHOAR_LIST_BYTES };
 
 static uint16_t memory[ROWS * COLUMNS], serial[LINKSHOAR_SERIAL_WORDS];
@@ -257,6 +259,16 @@ static int sent_enough(linkshoar_palette palette)
     return !memcmp(before, picture, sizeof picture);
 }
 
+static uint32_t crc_of(const uint8_t *bytes, size_t n, uint32_t crc)
+{
+    for (size_t i = 0; i < n; i++) {
+        crc ^= bytes[i];
+        for (int b = 0; b < 8; b++)
+            crc = crc & 1 ? 0xEDB88320u ^ crc >> 1 : crc >> 1;
+    }
+    return crc;
+}
+
 /* Whether two values that begin with the same three letters show them with the colours of letters and ground exchanged. */
 static int exchanged(uint32_t row, uint32_t other)
 {
@@ -281,20 +293,12 @@ static const char *what_is_wrong(linkshoar_palette palette)
         return "a colour is not the palette's in eight bits";
     if (!sent_enough(palette))
         return "a row that changed was not sent";
+    if (~crc_of((const uint8_t *)picture, sizeof picture, ~0u) != PICTURE)
+        return "the picture is not docs/page.png's";
     return NULL;
 }
 
 /* ---- a PNG with nothing compressed */
-
-static uint32_t crc_of(const uint8_t *bytes, size_t n, uint32_t crc)
-{
-    for (size_t i = 0; i < n; i++) {
-        crc ^= bytes[i];
-        for (int b = 0; b < 8; b++)
-            crc = crc & 1 ? 0xEDB88320u ^ crc >> 1 : crc >> 1;
-    }
-    return crc;
-}
 
 static void four(uint8_t *at, uint32_t n)
 {

@@ -168,7 +168,7 @@ typedef struct {
 
 typedef struct {
     uint32_t number;
-    uint32_t found, row; /* found: 0 no row is marked, 1 one is, and it is row; both 0 where the call is refused */
+    uint32_t found, row; /* found: 1 where a row is marked from start on, and row is the first; else both are 0 */
 } linkshoar_marked;
 
 typedef struct {
@@ -428,7 +428,7 @@ linkshoar_ran linkshoar_list_run(linkshoar_vram state, uint16_t *memory, size_t 
                                  const uint8_t *list, size_t length);
 
 /* The same, and each row that a word or block write of the list names is marked, if the list is not refused. marks, marks_bytes:
- * LINKSHOAR_MARKS_BYTES bytes; marks that are set stay set. Refused with 1 to 3, 18, 4 to 10, 19, 20, in this order; 18 has place 0. */
+ * LINKSHOAR_MARKS_BYTES bytes; marks that are set stay set. Refused with 1 to 3; then with 18, at place 0; then as linkshoar_list_run is. */
 linkshoar_ran linkshoar_list_run_marked(linkshoar_vram state, uint16_t *memory, size_t words, uint16_t *serial, size_t serial_words,
                                         uint8_t *marks, size_t marks_bytes, const uint8_t *list, size_t length);
 

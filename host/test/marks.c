@@ -72,8 +72,19 @@ void try_marks(void)
         both_marks_clear(some_length());
 }
 
-/* A link's copy of some rows: lists of every kind, accepted and refused, with clocks, panel runs and transfers between, and now and then
- * only the marked rows are sent. */
+/* A transfer by a list without marks, a clock and a run to the panel: none of them draws. */
+static linkshoar_vram show_between(linkshoar_vram state, uint32_t rows)
+{
+    size_t n = linkshoar_put_full_transfer(bytes_a, (uint16_t)below(rows), (uint8_t)below(2), (uint8_t)any());
+    memcpy(bytes_b, bytes_a, n);
+    state = both_list_run(state, 512 * (size_t)rows, 256, n);
+    both_serial_clock(state, 256);
+    both_panel_run(state, 256, linkshoar_palette_fresh(), 768, below(100), 0, 300);
+    return state;
+}
+
+/* A link's copy of some rows: lists of every kind, accepted and refused, with what does not draw between them, and now and then only the
+ * marked rows are sent. */
 void try_link(void)
 {
     static uint16_t copy[512 * MOST_ROWS];
@@ -85,8 +96,8 @@ void try_link(void)
     while (sendings--) {
         for (uint32_t n = below(4); n; n--) {
             state = both_list_run_marked(chance(4) ? some_vram() : state, words, 256, BYTES, some_list(rows)).state;
-            if (chance(4))
-                both_serial_clock(state, 256);
+            if (chance(2))
+                state = show_between(state, rows);
         }
         uint32_t sent = 0, last = 0;
         for (linkshoar_marked m = both_marks_next(BYTES, 0); m.found; m = both_marks_next(BYTES, m.row + 1)) {

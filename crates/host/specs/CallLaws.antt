@@ -24,7 +24,6 @@ use Rattle.registers.specs.declared.Ran.{Ran}
 use Rattle.registers.specs.State.{lawful, taken, handed, handedRan}
 use Rattle.registers.specs.StateLaws.{handed-taken, taking-excluded, taking-done, taking-handed, taking-either, other-length}
 use Rattle.host.specs.declared.Clocked.{Clocked}
-use Rattle.host.specs.declared.Shown.{Shown}
 use Rattle.host.specs.Calls.{Listed, listed, listAnswer, listCall, clockAnswer, clockCall, ShownTo, shown, panelAnswer, panelCallBy}
 
 -- ---- the two ways out of each call, by what the code has
@@ -126,7 +125,7 @@ module _ (s : Registers) where
           ap panelAnswer (sym (run-refuses parts (taken s) r p t clocks blank out (ran .answer .number) (run-number parts (taken s) r p t clocks blank out) n))
           ∙ ap (λ (u : Registers). back u (ran .answer .number)) (handed-taken s e)
 
--- ---- a stored length that is not one of the four is 1, in every call that is given the state
+-- ---- a stored length that is not one of the four is 1, in each of these calls
 
 module _ (s : Registers) (h : partitionOk (s .stop) ≡ false) where
   pub other-length-list : (m q list : List ℕ) → listCall s m q list ≡ listed (record { state = s; number = 1; place = 0 }) m q

@@ -73,19 +73,22 @@ module _ (marks : List ℕ) (n : ℕ) (e : n ≡ lengthNumber (length marks)) wh
       ap (λ (x : ℕ). cleared x left) z
       ∙ done-is cleared n (lengthNumber (length marks)) marks noMarks left e z (l ∙ ap (λ (x : ℕ). replicate x 0) (length-zero (length marks) (sym e ∙ z)))
 
--- ---- the next marked row
+-- ---- the next marked row: k is what 18 says, l what 5 says, n the first of both
 
-module _ (marks : List ℕ) (start n : ℕ) (e : n ≡ refuse (eqb (length marks) 64) 18 (refuse (leb start 511) 5 0)) where
+module _ (marks : List ℕ) (start k l n : ℕ) (p : k ≡ lengthNumber (length marks)) (q : l ≡ refuse (leb start 511) 5 0) (f : n ≡ refuse (eqb k 0) k l) where
+  e : n ≡ nextNumber (length marks) start
+  unfolding nextNumber
+  e = f ∙ firstOf-is k l ∙ ap₂ firstOf p q
+
   pub none-out : n ≢ 0 → answers n None ≡ nextCall marks start
-  unfolding nextCall nextNumber
+  unfolding nextCall
   none-out h = refused-is answers n (nextNumber (length marks) start) None (firstMarked marks start (512 - start)) e h
 
   module _ (z : n ≡ 0) where
     pub search-fits : (length marks ≡ 64) × (start ≤ 511)
-    unfolding nextNumber
     search-fits = next-zero marks start (sym e ∙ z)
 
     pub found-out : (found : Found) → found ≡ firstMarked marks start (512 - start) → answers n found ≡ nextCall marks start
-    unfolding nextCall nextNumber
-    found-out found f =
-        ap (λ (x : ℕ). answers x found) z ∙ done-is answers n (nextNumber (length marks) start) None (firstMarked marks start (512 - start)) found e z f
+    unfolding nextCall
+    found-out found g =
+        ap (λ (x : ℕ). answers x found) z ∙ done-is answers n (nextNumber (length marks) start) None (firstMarked marks start (512 - start)) found e z g

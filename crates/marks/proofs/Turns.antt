@@ -1,5 +1,5 @@
 -- One turn of each loop, in the terms that the code has. Assumes nothing.
-use mathlib.Core.Path.{_≡_, refl, sym, ap, ap₂, _∙_}
+use mathlib.Core.Path.{_≡_, sym, ap, ap₂, _∙_}
 use mathlib.Core.Bool.{true, false}
 use mathlib.Core.List.{List}
 use Prim.Native.Nat.{ℕ, suc, _+_, _-_, _*_, _/_, _%_, _^_, _≤_, _<_}
@@ -7,7 +7,7 @@ use native.Mathlib.Omega.{arith}
 use native.Mathlib.Decide.{ℕ-discrete}
 use native.Mathlib.Nat.{one-mul, mod-lt, mod-eq-of-lt}
 use lib.Pow.{pow-lt}
-use lib.ListN.{length, getD, take, drop, set, replicate, length-set, length-replicate, getD-replicate}
+use lib.ListN.{length, getD, take, drop, set, replicate, length-replicate, getD-replicate}
 use lib.Seq.{set-out, getD-set-same, getD-set-other, ext-getD}
 use Rattle.numbers.specs.BufferLaws.{tail-part, tail-length}
 use Rattle.vram.specs.declared.Cycle.{Cycle}
@@ -17,10 +17,10 @@ use Rattle.list.specs.Fields.{tag, body, whole, fields}
 use Rattle.list.specs.FieldLaws.{whole-length, whole-known, whole-says, body-word, readable-head, readable-tail}
 use Rattle.list.specs.Meaning.{readable, cyclesOf}
 use Rattle.list.specs.VerdictLaws.{cycles-nil, cycles-whole}
-use Rattle.marks.specs.declared.Found.the-variants.{None, Row}
+use Rattle.marks.specs.declared.Found.the-variants.{Row}
 use Rattle.marks.specs.Marks.{isMarked, mark, markedBy, markedByAll, firstMarked}
 use Rattle.marks.specs.MarkLaws.{by-write, by-none}
-use Rattle.marks.specs.NextLaws.{first-none, first-marked, first-skip, leftOf, left-marked, left-unmarked, left-none}
+use Rattle.marks.specs.NextLaws.{first-marked, first-skip, leftOf, left-marked, left-unmarked, left-none}
 
 -- ---- a row's bit
 

@@ -8,14 +8,14 @@ use native.Mathlib.Decide.{ℕ-discrete}
 use lib.Dec.{eqb, leb}
 use lib.ListN.{length}
 use borrow.Author.Tests.{eq-eqb, ne-eqb, le-leb, lt-leb, eqb-true, leb-true}
-use Rattle.numbers.specs.Refuse.{refuse, leaves}
-use Rattle.numbers.specs.RefuseLaws.{refuse-zero, leaves-made, leaves-before}
+use Rattle.numbers.specs.Refuse.{leaves}
+use Rattle.numbers.specs.RefuseLaws.{refuse-zero, firstOf-zero, leaves-made, leaves-before}
 use Rattle.vram.specs.Board.{Board, effect}
-use Rattle.vram.specs.Step.{givenOf, rowsOf, Engine, stepBy, runBy, run}
+use Rattle.vram.specs.Step.{givenOf, rowsOf, Engine, stepBy, runBy}
 use Rattle.list.specs.declared.Bad.{Bad}
 use Rattle.list.specs.declared.Open.the-variants.{None as NoneOpen}
 use Rattle.list.specs.Fields.{fields}
-use Rattle.list.specs.Meaning.{bad, firstBad, judged, cyclesOf, verdictOf as listVerdict, runCallBy as listCallBy}
+use Rattle.list.specs.Meaning.{bad, judged, cyclesOf, verdictOf as listVerdict, runCallBy as listCallBy}
 use Rattle.list.specs.JudgeLaws.{bad-first, bad-later, bad-zero}
 use Rattle.list.specs.PersistLaws.{call-plain}
 use Rattle.list.specs.CallLaws.{verdict-given, verdict-judged, call-given-by, call-runs-by, call-refuses-by}
@@ -136,23 +136,23 @@ module _ (marks : List ℕ) (start : ℕ) where
   -- 18 first
   pub next-18 : length marks ≢ 64 → nextCall marks start ≡ answers 18 None
   unfolding nextCall nextNumber
-  next-18 n = rw (ne-eqb (length marks) 64 n)
+  next-18 n = rw (length-other (length marks) n)
 
   -- then 5
   pub next-5 : length marks ≡ 64 → 511 < start → nextCall marks start ≡ answers 5 None
   unfolding nextCall nextNumber
-  next-5 e h = rw (e, lt-leb start 511 h)
+  next-5 e h = rw (e, length-fine, lt-leb start 511 h)
 
   -- and then the first marked row
   pub next-finds : length marks ≡ 64 → start ≤ 511 → nextCall marks start ≡ answers 0 (firstMarked marks start (512 - start))
   unfolding nextCall nextNumber
-  next-finds e h = rw (e, le-leb start 511 h)
+  next-finds e h = rw (e, length-fine, le-leb start 511 h)
 
   pub next-zero : nextNumber (length marks) start ≡ 0 → (length marks ≡ 64) × (start ≤ 511)
   unfolding nextNumber
   next-zero z =
-      let p = refuse-zero (eqb (length marks) 64) 17 _ z in
-      (eqb-true _ _ (p .0), leb-true _ _ (refuse-zero (leb start 511) 4 0 (p .1) .0))
+      let p = firstOf-zero (lengthNumber (length marks)) _ z in
+      (length-zero (length marks) (p .0), leb-true _ _ (refuse-zero (leb start 511) 4 0 (p .1) .0))
 
 -- ---- its values, case by case
 

@@ -4,7 +4,7 @@ use mathlib.Core.Bool.{cond}
 use mathlib.Core.List.{List}
 use lib.Dec.{eqb, leb}
 use lib.ListN.{length}
-use Rattle.numbers.specs.Refuse.{refuse, leaves}
+use Rattle.numbers.specs.Refuse.{refuse, firstOf, leaves}
 use Rattle.vram.specs.Board.{Board, board, effect}
 use Rattle.vram.specs.Step.{givenOf, rowsOf, Engine, stepBy, runBy}
 use Rattle.list.specs.declared.Bad.{Bad}
@@ -67,7 +67,7 @@ clearCall marks = cleared (lengthNumber (length marks)) (leaves (lengthNumber (l
 
 -- 18, then 5
 unfoldable pub nextNumber : ℕ → ℕ → ℕ
-nextNumber bytes start = refuse (eqb bytes 64) 18 (refuse (leb start 511) 5 0)
+nextNumber bytes start = firstOf (lengthNumber bytes) (refuse (leb start 511) 5 0)
 
 abbrev pub answers : ℕ → Found → Marked
 answers n found = record { number = n; found = found }

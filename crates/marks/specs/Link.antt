@@ -4,11 +4,10 @@ use mathlib.Core.Path.{_≡_, refl, sym, ap, _∙_}
 use mathlib.Core.Bool.{Bool, true, false}
 use mathlib.Core.List.{List, [], _∷_}
 use mathlib.Core.Logic.{_≢_, _⊎_, inl, inr, ⊎-elim}
-use Prim.Native.Nat.{ℕ, _+_, _-_, _*_, _/_, _%_, _≤_, _<_}
+use Prim.Native.Nat.{ℕ, _+_, _*_, _/_, _%_, _≤_, _<_}
 use native.Mathlib.Omega.{arith}
 use native.Mathlib.Decide.{ℕ-discrete, decLe, decLt}
-use lib.Dec.{eqb}
-use lib.ListN.{length, getD, take, drop}
+use lib.ListN.{length, getD, drop}
 use lib.Seq.{ext-getD, getD-take, getD-drop}
 use borrow.Author.Tests.{eq-eqb, ne-eqb}
 use Rattle.words.specs.Bit.{digit}
@@ -30,6 +29,11 @@ sent memory (r ∷ rows) copy = sent memory rows (copied memory (512 * r) copy (
 
 abbrev Fitted : List ℕ → List ℕ → Type 0
 Fitted memory rows = (r : ℕ) → times r rows ≢ 0 → 512 * r + 512 ≤ length memory
+
+-- the first of some rows stands among them
+first-stands : (r : ℕ) (rows : List ℕ) → times r (r ∷ rows) ≢ 0
+unfolding times
+first-stands r rows z = let y : _≡_ {A = ℕ} (1 + times r rows) 0 = rw (eq-eqb r r refl) at z in omega arith
 
 module _ (memory : List ℕ) (a : ℕ) where
   module _ (r : ℕ) (copy : List ℕ) (e : length copy ≡ length memory) (f : 512 * r + 512 ≤ length memory) where
@@ -56,7 +60,7 @@ module _ (memory : List ℕ) (a : ℕ) where
   unfolding sent times
   sent-at [] copy e f h = ⊎-elim (λ n. absurd (n refl)) (λ g. g) h
   sent-at (r ∷ rows) copy e f h =
-      let k = f r (some r rows) in
+      let k = f r (first-stands r rows) in
       sent-at rows (copied memory (512 * r) copy (512 * r) 512)
       (copied-length memory (512 * r) copy (512 * r) 512 k (omega arith) ∙ e)
       (λ q n. f q (λ z. n (omega arith)))
@@ -65,20 +69,14 @@ module _ (memory : List ℕ) (a : ℕ) where
         | no n ↦
             ⊎-elim (λ m. inl (λ z. m (rw (ne-eqb r (a / 512) (λ x. n (sym x))) (omega arith)))) (λ g. inr (away r copy e k n ∙ g)) h
       ])
-    where
-      some : (r : ℕ) (rows : List ℕ) → digit (eqb r r) + times r rows ≢ 0
-      some r rows z = let y : _≡_ {A = ℕ} (1 + times r rows) 0 = rw (eq-eqb r r refl) at z in omega arith
 
 -- the length of the copy stays
 sent-length : (memory rows copy : List ℕ) → length copy ≡ length memory → Fitted memory rows → length (sent memory rows copy) ≡ length copy
 unfolding sent times
 sent-length memory [] copy e f = refl
 sent-length memory (r ∷ rows) copy e f =
-    let l = copied-length memory (512 * r) copy (512 * r) 512 (f r some) (omega (arith, f r some)) in
+    let l = copied-length memory (512 * r) copy (512 * r) 512 (f r (first-stands r rows)) (omega (arith, f r (first-stands r rows))) in
     sent-length memory rows (copied memory (512 * r) copy (512 * r) 512) (l ∙ e) (λ q n. f q (λ z. n (omega arith))) ∙ l
-  where
-    some : digit (eqb r r) + times r rows ≢ 0
-    some z = let y : _≡_ {A = ℕ} (1 + times r rows) 0 = rw (eq-eqb r r refl) at z in omega arith
 
 -- ---- on n rows, since the clearing: the copy is the memory, once the marked rows are sent
 

@@ -1,18 +1,16 @@
 -- Laws of marks. Assumes nothing.
 use mathlib.Core.Path.{_≡_, refl, sym, ap, _∙_}
-use mathlib.Core.Bool.{Bool, true, false, _||_, true≢false}
+use mathlib.Core.Bool.{Bool, true, false, _||_}
 use mathlib.Core.List.{List, [], _∷_, _++_}
-use mathlib.Core.Logic.{_≢_}
-use Prim.Native.Nat.{ℕ, zero, suc, _-_, _*_, _/_, _%_, _^_, _≤_, _<_}
+use Prim.Native.Nat.{ℕ, zero, suc, _/_, _%_, _^_, _≤_, _<_}
 use native.Mathlib.Omega.{arith}
-use native.Mathlib.Nat.{div-eq-of-lt, one-mul}
-use lib.Pow.{pow-lt}
-use lib.Dec.{eqb, leb, lit≤}
-use lib.ListN.{length, getD, set, replicate, length-set}
+use lib.Dec.{eqb, lit≤}
+use lib.ListN.{length, getD, replicate, length-set}
 use lib.Seq.{getD-set-same, getD-set-other}
-use borrow.Author.Tests.{eqb-true, eqb-false, eq-eqb, ne-eqb, leb-true, leb-false}
+use borrow.Author.Tests.{eqb-true, eqb-false, eq-eqb, ne-eqb}
 use Rattle.words.specs.Bit.{bit}
-use Rattle.words.specs.BitLaws.{bit-or, bit-none, bit-mul-high, bit-mul-low}
+use Rattle.words.specs.BitLaws.{bit-or, bit-none, bit-pow}
+use Rattle.words.specs.CodeLaws.{or-false}
 use Rattle.vram.specs.declared.Cycle.{Cycle}
 use Rattle.vram.specs.declared.Cycle.the-variants.{WordWrite, BlockWrite, LoadColour, LoadMask, ResetRefresh, FullTransfer, SplitTransfer, StopPoints}
 use Rattle.vram.specs.Kinds.{tagOf, names}
@@ -21,38 +19,14 @@ use Rattle.list.specs.Tags.{word, cycleOf}
 use Rattle.list.specs.TagLaws.{cycle-one, cycle-two}
 use Rattle.marks.specs.Marks.{isMarked, noMarks, mark, marking, writtenBy, markedBy, markedByAll, namedIn}
 
--- ---- a power of two has one bit
-
-bit-one : (j : ℕ) → bit 1 (suc j) ≡ false
-unfolding bit
-bit-one j = let h : 1 < 2 ^ suc j = pow-lt {i = 0} (omega arith) in rw (div-eq-of-lt h)
-
-bit-pow : (k b : ℕ) → bit (2 ^ k) b ≡ eqb b k
-unfolding bit
-bit-pow k b = ap (λ (n : ℕ). bit n b) (sym (one-mul (2 ^ k))) ∙ go (leb k b) refl
-  where
-    high : (j : ℕ) → b - k ≡ j → k ≤ b → bit 1 (b - k) ≡ eqb b k
-    high zero e h = ap (bit 1) e ∙ sym (eq-eqb b k (omega arith))
-    high (suc j) e h = ap (bit 1) e ∙ bit-one j ∙ sym (ne-eqb b k (λ z. omega arith))
-
-    go : (t : Bool) → leb k b ≡ t → bit (1 * 2 ^ k) b ≡ eqb b k
-    go true e = bit-mul-high 1 k b (leb-true k b e) ∙ high (b - k) refl (leb-true k b e)
-    go false e = let h : b < k = leb-false k b e in bit-mul-low 1 k b h ∙ sym (ne-eqb b k (λ z. omega arith))
-
 -- ---- a mark
-
-or-swap : (p q : Bool) → (p || q) ≡ (q || p)
-or-swap true true = refl
-or-swap true false = refl
-or-swap false true = refl
-or-swap false false = refl
 
 pub mark-length : (r : ℕ) (marks : List ℕ) → length (mark r marks) ≡ length marks
 unfolding mark
 mark-length r marks = simp length-set
 
 -- the row's mark is set, and every other mark stays
-pub mark-marks : (marks : List ℕ) (r q : ℕ) → q / 8 < length marks → isMarked (mark r marks) q ≡ (eqb r q || isMarked marks q)
+pub mark-marks : (marks : List ℕ) (r q : ℕ) → q / 8 < length marks → isMarked (mark r marks) q ≡ (isMarked marks q || eqb r q)
 unfolding mark isMarked
 mark-marks marks r q h = go (eqb (q / 8) (r / 8)) (eqb r q) refl refl
   where
@@ -60,12 +34,12 @@ mark-marks marks r q h = go (eqb (q / 8) (r / 8)) (eqb r q) refl refl
     same true f z = eq-eqb (q % 8) (r % 8) (let y : r ≡ q = eqb-true r q f in omega arith)
     same false f z = ne-eqb (q % 8) (r % 8) (λ x. eqb-false r q f (omega arith))
 
-    go : (t u : Bool) → eqb (q / 8) (r / 8) ≡ t → eqb r q ≡ u → isMarked (mark r marks) q ≡ (u || isMarked marks q)
+    go : (t u : Bool) → eqb (q / 8) (r / 8) ≡ t → eqb r q ≡ u → isMarked (mark r marks) q ≡ (isMarked marks q || u)
     go false true e f = let z : r ≡ q = eqb-true r q f in absurd (eqb-false (q / 8) (r / 8) e (ap (λ (n : ℕ). n / 8) (sym z)))
-    go false false e f = rw (getD-set-other marks (r / 8) (q / 8) _ 0 (eqb-false (q / 8) (r / 8) e))
+    go false false e f = rw (getD-set-other marks (r / 8) (q / 8) _ 0 (eqb-false (q / 8) (r / 8) e)) (sym (or-false (isMarked marks q)))
     go true u e f =
         let z : q / 8 ≡ r / 8 = eqb-true (q / 8) (r / 8) e in
-        rw (z, getD-set-same marks (r / 8) _ 0 (omega arith), bit-or _ (2 ^ (r % 8)) (q % 8), bit-pow (r % 8) (q % 8), same u f z) (or-swap _ u)
+        rw (z, getD-set-same marks (r / 8) _ 0 (omega arith), bit-or _ (2 ^ (r % 8)) (q % 8), bit-pow (r % 8) (q % 8), same u f z)
 
 -- ---- the marks after a cycle: set where it is a write that names the row, and else as they were
 
@@ -79,11 +53,11 @@ unfolding markedBy
 by-length c marks = marking-length (writtenBy c) marks
 
 module _ (marks : List ℕ) (q : ℕ) where
-  other : (c : Cycle) (t : ℕ) → tagOf c ≡ t → 2 < t → isMarked marks q ≡ (names q c || isMarked marks q)
-  other c t e h = rw (names-other q c (omega arith))
+  other : (c : Cycle) (t : ℕ) → tagOf c ≡ t → 2 < t → isMarked marks q ≡ (isMarked marks q || names q c)
+  other c t e h = rw (names-other q c (omega arith)) (sym (or-false (isMarked marks q)))
 
   module _ (h : q / 8 < length marks) where
-    pub by-marks : (c : Cycle) → isMarked (markedBy c marks) q ≡ (names q c || isMarked marks q)
+    pub by-marks : (c : Cycle) → isMarked (markedBy c marks) q ≡ (isMarked marks q || names q c)
     unfolding markedBy writtenBy marking
     by-marks (WordWrite row column word masking mask strobes) = rw (names-word q row column word masking mask strobes) (mark-marks marks row q h)
     by-marks (BlockWrite row column columns masking mask strobes) = rw (names-block q row column columns masking mask strobes) (mark-marks marks row q h)
@@ -117,24 +91,23 @@ module _ (marks : List ℕ) where
 
 -- ---- and after cycles in order
 
-shuffle : (p q r : Bool) → (q || (p || r)) ≡ ((p || q) || r)
-shuffle true true r = refl
-shuffle true false r = refl
-shuffle false q r = refl
+or-assoc : (p q r : Bool) → ((p || q) || r) ≡ (p || (q || r))
+or-assoc true q r = refl
+or-assoc false q r = refl
 
 pub all-length : (l : List Cycle) (marks : List ℕ) → length (markedByAll l marks) ≡ length marks
 unfolding markedByAll
 all-length [] marks = refl
 all-length (c ∷ l) marks = all-length l (markedBy c marks) ∙ by-length c marks
 
--- set exactly where one of them is a write that names the row, or it was set before
-pub all-marks : (l : List Cycle) (marks : List ℕ) (q : ℕ) → q / 8 < length marks → isMarked (markedByAll l marks) q ≡ (namedIn q l || isMarked marks q)
+-- set exactly where it was set before, or one of them is a write that names the row
+pub all-marks : (l : List Cycle) (marks : List ℕ) (q : ℕ) → q / 8 < length marks → isMarked (markedByAll l marks) q ≡ (isMarked marks q || namedIn q l)
 unfolding markedByAll namedIn
-all-marks [] marks q h = refl
+all-marks [] marks q h = sym (or-false (isMarked marks q))
 all-marks (c ∷ l) marks q h =
     all-marks l (markedBy c marks) q (rw (by-length c marks) h)
-    ∙ ap (λ (t : Bool). namedIn q l || t) (by-marks marks q h c)
-    ∙ shuffle (names q c) (namedIn q l) (isMarked marks q)
+    ∙ ap (λ (t : Bool). t || namedIn q l) (by-marks marks q h c)
+    ∙ or-assoc (isMarked marks q) (names q c) (namedIn q l)
 
 pub all-append : (l k : List Cycle) (marks : List ℕ) → markedByAll (l ++ k) marks ≡ markedByAll k (markedByAll l marks)
 unfolding markedByAll

@@ -1,11 +1,11 @@
 -- Laws of the first marked row from a row on. Assumes nothing.
-use mathlib.Core.Path.{_≡_, refl, sym, ap, _∙_, subst}
-use mathlib.Core.Bool.{Bool, true, false, cond}
+use mathlib.Core.Path.{_≡_, refl, sym, ap, _∙_}
+use mathlib.Core.Bool.{Bool, true, false, cond, true≢false}
 use mathlib.Core.List.{List}
-use Prim.Native.Nat.{ℕ, zero, suc, _+_, _-_, _*_, _/_, _%_, _^_, _≤_, _<_}
+use Prim.Native.Nat.{ℕ, zero, suc, _+_, _/_, _%_, _^_, _≤_, _<_}
 use native.Mathlib.Omega.{arith}
 use native.Mathlib.Nat.{add-zero}
-use native.Mathlib.Decide.{decLe}
+use native.Mathlib.Decide.{decLe, decLt}
 use lib.ListN.{getD}
 use borrow.Author.Tests.{eq-eqb, ne-eqb}
 use Rattle.words.specs.Bit.{bit}
@@ -63,6 +63,22 @@ module _ (marks : List ℕ) where
       go true e f l = (omega arith, omega arith, e, λ q h k. absurd (omega arith))
       go false e None l = λ q h k. later e (suc r + n) l q h (omega arith)
       go false e (Row s) l = (omega (arith, l .0), omega (arith, l .1), l .2, later e s (l .3))
+
+  -- no two differ that are least: so what is least is found, and none where no row is marked
+  one-least : (r n : ℕ) (f g : Found) → Least r n f → Least r n g → f ≡ g
+  one-least r n None None h k = refl
+  one-least r n None (Row t) h k = absurd (true≢false (sym (k .2) ∙ h t (k .0) (k .1)))
+  one-least r n (Row s) None h k = absurd (true≢false (sym (h .2) ∙ k s (h .0) (h .1)))
+  one-least r n (Row s) (Row t) h k = elim (decLt s t) [
+    | yes l ↦ absurd (true≢false (sym (h .2) ∙ k .3 s (h .0) l))
+    | no m ↦ elim (decLt t s) [
+      | yes l ↦ absurd (true≢false (sym (k .2) ∙ h .3 t (k .0) l))
+      | no o ↦ let e : s ≡ t = omega arith in ap (λ (x : ℕ). Row x) e
+    ]
+  ]
+
+  pub first-only : (n r : ℕ) (f : Found) → Least r n f → firstMarked marks r n ≡ f
+  first-only n r f l = one-least r n (firstMarked marks r n) f (first-least n r) l
 
   -- ---- one byte
 

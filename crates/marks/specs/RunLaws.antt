@@ -1,13 +1,14 @@
 -- What marked runs mark, and what they leave alone: change request M-104. Assumes nothing.
 use mathlib.Core.Path.{_≡_, refl, sym, ap, _∙_, subst}
-use mathlib.Core.Bool.{Bool, true, false, _||_, cond, true≢false}
+use mathlib.Core.Bool.{Bool, true, false, _||_, true≢false}
 use mathlib.Core.List.{List, [], _∷_, _++_, List·Memᴰ, List·Memᴰ·head, List·Memᴰ·tail}
 use mathlib.Core.Logic.{_≢_}
-use Prim.Native.Nat.{ℕ, _+_, _*_, _/_, _≤_, _<_}
+use Prim.Native.Nat.{ℕ, _/_, _≤_, _<_}
 use native.Mathlib.Omega.{arith}
 use native.Mathlib.Decide.{ℕ-discrete}
-use lib.ListN.{length, getD, length-replicate}
+use lib.ListN.{length}
 use Rattle.numbers.specs.RefuseLaws.{leaves-made, leaves-before}
+use Rattle.numbers.specs.Between.{neither}
 use Rattle.vram.specs.declared.Cycle.{Cycle}
 use Rattle.vram.specs.Board.{Board, effect}
 use Rattle.vram.specs.Step.{step, runBy, run}
@@ -16,20 +17,16 @@ use Rattle.vram.specs.Writes.{rowOf}
 use Rattle.vram.specs.RuleLaws.{step-row, run-sized}
 use Rattle.vram.specs.CaseLaws.{run-none, run-next, names-fitted}
 use Rattle.list.specs.declared.Bad.{Bad}
-use Rattle.list.specs.Meaning.{cyclesOf, verdictOf as listVerdict}
+use Rattle.list.specs.Meaning.{cyclesOf}
 use Rattle.list.specs.CallLaws.{call-runs}
 use Rattle.list.specs.PerformLaws.{call-performs, accepted-cycle}
 use Rattle.marks.specs.Marks.{isMarked, noMarks, markedByAll, namedIn}
-use Rattle.marks.specs.MarkLaws.{all-length, all-marks, none-marked}
+use Rattle.marks.specs.MarkLaws.{all-length, all-marks, all-append, none-marked}
 use Rattle.marks.specs.Calls.{Outcome, verdictOf, clearCall}
 use Rattle.marks.specs.CallLaws.{verdict-zero, run-given-by, run-refuses-by, run-runs-by, clear-clears}
 use Rattle.marks.specs.Runs.{Run, Drawn, drawn, boardOf, callOf, ran, after, ranAll, afterAll, since}
 
 -- ---- cycles and rows
-
-neither : (p q : Bool) → (p || q) ≡ false → (p ≡ false) × (q ≡ false)
-neither true q e = absurd (true≢false e)
-neither false q e = (refl, e)
 
 pub named-append : (q : ℕ) (l k : List Cycle) → namedIn q (l ++ k) ≡ (namedIn q l || namedIn q k)
 unfolding namedIn
@@ -89,40 +86,29 @@ module _ (r : Run) (d : Drawn) where
         ∙ ap (λ (b : Board). drawn (b .memory) (d .marks)) (run-none step (boardOf r d)))
   ]
 
-  pub after-marks-length : length (after r d .marks) ≡ length (d .marks)
-  after-marks-length = ap (λ (x : Drawn). length (x .marks)) after-ran ∙ all-length (ran r d) (d .marks)
-
   pub after-memory-length : length (after r d .memory) ≡ length (d .memory)
   after-memory-length = ap (λ (x : Drawn). length (x .memory)) after-ran ∙ run-sized (ran r d) (boardOf r d) .memory
 
 -- ---- any number of runs
-
-pub all-marks-length : (rs : List Run) (d : Drawn) → length (afterAll rs d .marks) ≡ length (d .marks)
-unfolding afterAll
-all-marks-length [] d = refl
-all-marks-length (r ∷ rs) d = all-marks-length rs (after r d) ∙ after-marks-length r d
 
 pub all-memory-length : (rs : List Run) (d : Drawn) → length (afterAll rs d .memory) ≡ length (d .memory)
 unfolding afterAll
 all-memory-length [] d = refl
 all-memory-length (r ∷ rs) d = all-memory-length rs (after r d) ∙ after-memory-length r d
 
--- a mark is set exactly where a word or block write that names its row has run, or where it was set before
+-- the marks are those of all cycles that have run
+pub all-marked : (rs : List Run) (d : Drawn) → afterAll rs d .marks ≡ markedByAll (ranAll rs d) (d .marks)
+unfolding afterAll ranAll markedByAll
+all-marked [] d = refl
+all-marked (r ∷ rs) d =
+    all-marked rs (after r d)
+    ∙ ap (λ (x : Drawn). markedByAll (ranAll rs (after r d)) (x .marks)) (after-ran r d)
+    ∙ sym (all-append (ran r d) (ranAll rs (after r d)) (d .marks))
+
+-- so a mark is set exactly where it was set before, or a word or block write that names its row has run
 pub runs-mark : (rs : List Run) (d : Drawn) (q : ℕ) → q / 8 < length (d .marks)
-    → isMarked (afterAll rs d .marks) q ≡ (namedIn q (ranAll rs d) || isMarked (d .marks) q)
-unfolding afterAll ranAll namedIn
-runs-mark [] d q h = refl
-runs-mark (r ∷ rs) d q h =
-    runs-mark rs (after r d) q (rw (after-marks-length r d) h)
-    ∙ ap (λ (t : Bool). namedIn q (ranAll rs (after r d)) || t)
-    (ap (λ (x : Drawn). isMarked (x .marks) q) (after-ran r d) ∙ all-marks (ran r d) (d .marks) q h)
-    ∙ shuffle (namedIn q (ran r d)) (namedIn q (ranAll rs (after r d))) (isMarked (d .marks) q)
-    ∙ ap (λ (t : Bool). t || isMarked (d .marks) q) (sym (named-append q (ran r d) (ranAll rs (after r d))))
-  where
-    shuffle : (p q r : Bool) → (q || (p || r)) ≡ ((p || q) || r)
-    shuffle true true r = refl
-    shuffle true false r = refl
-    shuffle false q r = refl
+    → isMarked (afterAll rs d .marks) q ≡ (isMarked (d .marks) q || namedIn q (ranAll rs d))
+runs-mark rs d q h = ap (λ (m : List ℕ). isMarked m q) (all-marked rs d) ∙ all-marks (ranAll rs d) (d .marks) q h
 
 -- a row that no write names that has run holds the words that it held
 pub runs-row : (rs : List Run) (d : Drawn) (q : ℕ) → namedIn q (ranAll rs d) ≡ false → rowOf q (afterAll rs d .memory) ≡ rowOf q (d .memory)
@@ -173,18 +159,14 @@ module _ (marks : List ℕ) (e : length marks ≡ 64) (rs : List Run) (memory : 
   clean = ap (λ c. c .marks) (clear-clears marks e)
 
   pub since-length : length (afterAll rs (since marks memory) .marks) ≡ 64
-  since-length = all-marks-length rs (since marks memory) ∙ ap length clean
+  since-length =
+      ap length (all-marked rs (since marks memory)) ∙ all-length (ranAll rs (since marks memory)) (clearCall marks .marks) ∙ ap length clean
 
   -- a row is marked exactly where a word or block write that names it has run since
   pub marked-since : (q : ℕ) → q ≤ 511 → isMarked (afterAll rs (since marks memory) .marks) q ≡ namedIn q (ranAll rs (since marks memory))
   marked-since q h =
       runs-mark rs (since marks memory) q (rw clean (omega arith))
-      ∙ ap (λ (t : Bool). namedIn q (ranAll rs (since marks memory)) || t) (ap (λ (m : List ℕ). isMarked m q) clean ∙ none-marked q)
-      ∙ either (namedIn q (ranAll rs (since marks memory)))
-    where
-      either : (p : Bool) → (p || false) ≡ p
-      either true = refl
-      either false = refl
+      ∙ ap (λ (t : Bool). t || namedIn q (ranAll rs (since marks memory))) (ap (λ (m : List ℕ). isMarked m q) clean ∙ none-marked q)
 
   -- a row that is not marked holds the words that it held at the clearing, all 512 of them
   pub unmarked-holds : (q : ℕ) → q ≤ 511 → isMarked (afterAll rs (since marks memory) .marks) q ≡ false

@@ -1,7 +1,7 @@
 -- A link that goes from marked row to marked row visits each once, and no other row. Assumes nothing.
-use mathlib.Core.Path.{_≡_, refl, sym, ap, ap₂, _∙_}
+use mathlib.Core.Path.{_≡_, refl, sym, ap, _∙_}
 use mathlib.Core.Bool.{Bool, true, false, cond}
-use mathlib.Core.List.{List, [], _∷_}
+use mathlib.Core.List.{List, _∷_}
 use mathlib.Core.Logic.{_≢_}
 use Prim.Native.Nat.{ℕ, zero, suc, _+_, _-_, _≤_, _<_}
 use native.Mathlib.Omega.{arith}
@@ -9,7 +9,7 @@ use native.Mathlib.Nat.{zero-add}
 use native.Mathlib.Decide.{decLe}
 use lib.Dec.{eqb}
 use lib.ListN.{length}
-use borrow.Author.Tests.{eq-eqb, ne-eqb, eqb-true, eqb-false}
+use borrow.Author.Tests.{ne-eqb, eqb-true, eqb-false}
 use Rattle.words.specs.Bit.{digit}
 use Rattle.marks.specs.declared.Found.{Found}
 use Rattle.marks.specs.declared.Found.the-variants.{None, Row}
@@ -65,17 +65,21 @@ module _ (marks : List ℕ) where
 
   -- ---- each once
 
-  -- a row stands there once where it is one of the n and is marked, and else not at all
-  below : (n r q : ℕ) → q < r → times q (markedRows marks r n) ≡ 0
+  -- a row that is none of the n does not stand there
+  outside : (n r q : ℕ) → (r ≤ q → q < r + n → ⊥) → times q (markedRows marks r n) ≡ 0
   unfolding markedRows times
-  below zero r q h = refl
-  below (suc n) r q h = go (isMarked marks r) (below n (suc r) q (omega arith))
+  outside zero r q h = refl
+  outside (suc n) r q h = go (isMarked marks r) (outside n (suc r) q (λ k l. h (omega arith) (omega arith)))
     where
+      other : r ≢ q
+      other e = h (omega arith) (omega arith)
+
       go : (t : Bool) → times q (markedRows marks (suc r) n) ≡ 0
           → times q (cond t (r ∷ markedRows marks (suc r) n) (markedRows marks (suc r) n)) ≡ 0
-      go true ih = rw (ne-eqb r q (λ e. omega arith)) (omega arith)
+      go true ih = rw (ne-eqb r q other) (omega arith)
       go false ih = ih
 
+  -- one of them stands there once where it is marked
   among : (n r q : ℕ) → r ≤ q → q < r + n → times q (markedRows marks r n) ≡ digit (isMarked marks q)
   unfolding markedRows times
   among zero r q h l = absurd (omega arith)
@@ -86,26 +90,16 @@ module _ (marks : List ℕ) where
           → times q (cond t (r ∷ markedRows marks (suc r) n) (markedRows marks (suc r) n)) ≡ digit (isMarked marks q)
       go true e true f ih =
           let z : r ≡ q = eqb-true r q f in
-          rw (f, below n (suc r) q (omega arith)) (ap digit (sym e ∙ ap (isMarked marks) z))
+          rw (f, outside n (suc r) q (λ k m. omega arith)) (ap digit (sym e ∙ ap (isMarked marks) z))
       go false e true f ih =
           let z : r ≡ q = eqb-true r q f in
-          below n (suc r) q (omega arith) ∙ ap digit (sym e ∙ ap (isMarked marks) z)
+          outside n (suc r) q (λ k m. omega arith) ∙ ap digit (sym e ∙ ap (isMarked marks) z)
       go true e false f ih =
           let z : r ≢ q = eqb-false r q f in
           rw (f, zero-add (times q (markedRows marks (suc r) n))) (ih (omega arith) (omega arith))
       go false e false f ih =
           let z : r ≢ q = eqb-false r q f in
           ih (omega arith) (omega arith)
-
-  past : (n r q : ℕ) → r + n ≤ q → times q (markedRows marks r n) ≡ 0
-  unfolding markedRows times
-  past zero r q h = refl
-  past (suc n) r q h = go (isMarked marks r) (past n (suc r) q (omega arith))
-    where
-      go : (t : Bool) → times q (markedRows marks (suc r) n) ≡ 0
-          → times q (cond t (r ∷ markedRows marks (suc r) n) (markedRows marks (suc r) n)) ≡ 0
-      go true ih = rw (ne-eqb r q (λ e. omega arith)) (omega arith)
-      go false ih = ih
 
 -- the whole walk, from row 0 on
 module _ (marks : List ℕ) (h : length marks ≡ 64) (k : ℕ) (l : 512 ≤ k) where
@@ -117,4 +111,4 @@ module _ (marks : List ℕ) (h : length marks ≡ 64) (k : ℕ) (l : 512 ≤ k) 
   walk-once q m = ap (times q) walk-rows ∙ among marks 512 0 q (omega arith) (omega arith)
 
   pub walk-within : (q : ℕ) → 511 < q → times q (visited marks k 0) ≡ 0
-  walk-within q m = ap (times q) walk-rows ∙ past marks 512 0 q (omega arith)
+  walk-within q m = ap (times q) walk-rows ∙ outside marks 512 0 q (λ k n. omega arith)

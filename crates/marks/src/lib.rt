@@ -3,7 +3,6 @@
 ghost use mathlib.Core.Path.{_≡_};
 ghost use Rattle.vram.specs.Board.{board};
 ghost use Rattle.marks.specs.Calls.{lengthNumber, outcome, runCall, cleared, clearCall, nextCall};
-ghost use lib.ListN.{length};
 
 mod rows;
 
@@ -76,11 +75,9 @@ pub fn clear(marks: &mut [u8]) -> u32
 pub fn next(marks: &[u8], start: u32) -> Marked
     ensures { λ r. ⌜ r ≡ nextCall (now (marks .entry)) start ⌝ }
 {
-    let n = refuse(
-        marks.len() == 64,
-        numbers::MARKS_LENGTH,
-        refuse(start <= 511, numbers::ROW_NOT_FITTED, numbers::DONE),
-    );
+    let length = length_number(marks.len());
+    let later = refuse(start <= 511, numbers::ROW_NOT_FITTED, numbers::DONE);
+    let n = refuse(length == numbers::DONE, length, later);
     if n != numbers::DONE {
         return Marked {
             number: n,

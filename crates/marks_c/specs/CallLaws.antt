@@ -4,13 +4,14 @@ use mathlib.Core.Path.{_≡_, refl, sym, ap, ap₂, _∙_}
 use mathlib.Core.Bool.{true, false}
 use mathlib.Core.List.{List}
 use mathlib.Core.Logic.{_≢_}
+use Rattle.refusals.specs.Refusal.{partitionOk}
 use Rattle.vram.specs.declared.Vram.{Vram}
 use Rattle.vram.specs.Board.{Board, board, effect}
 use Rattle.list.specs.declared.Ran.{Ran as ListRan}
 use Rattle.registers.specs.declared.Registers.{Registers}
 use Rattle.registers.specs.declared.Ran.{Ran}
 use Rattle.registers.specs.State.{lawful, taken, handed, handedRan}
-use Rattle.registers.specs.StateLaws.{handed-taken, taking-excluded, taking-done, taking-handed, taking-either}
+use Rattle.registers.specs.StateLaws.{handed-taken, taking-excluded, taking-done, taking-handed, taking-either, other-length}
 use Rattle.marks.specs.declared.Found.{Found}
 use Rattle.marks.specs.declared.Marked.{Marked as Below}
 use Rattle.marks.specs.Calls.{Outcome, outcome, runCall, nextCall, Values, valuesOf}
@@ -54,6 +55,11 @@ module _ (s : Registers) (m q marks list : List ℕ) where
           ap (λ (x : Outcome). listed (record { state = handed (x .after .state); number = o .given .number; place = o .given .place }) (x .after .memory) (x .after .serial) (x .marks))
           (run-refuses-by effect list given marks (λ z. n (ap (λ v. v .number) (run-given-by effect list given marks) ∙ z)))
           ∙ ap (back (below (taken s))) (handed-taken s e)
+
+-- a stored length that is not one of the four is 1
+pub other-length-marked : (s : Registers) → partitionOk (s .stop) ≡ false → (m q marks list : List ℕ)
+    → markedCall s m q marks list ≡ listed (record { state = s; number = 1; place = 0 }) m q marks
+other-length-marked s h m q marks list = sym (marked-excluded s m q marks list (other-length s h))
 
 -- a call on a state that was handed to C is the call below, so a session in C is the session below
 pub marked-handed : (v : Vram) (m q marks list : List ℕ) → markedCall (handed v) m q marks list ≡ listAnswer (runCall list (board v m q) marks)

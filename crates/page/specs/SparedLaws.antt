@@ -1,9 +1,10 @@
 -- Laws of bits that some rectangles leave alone. Assumes nothing.
 use Prim.Native.Nat.{ℕ, _<_}
 use mathlib.Core.Path.{_≡_, refl, sym, _∙_, subst}
-use mathlib.Core.Bool.{Bool, true, false, _||_, true≢false}
+use mathlib.Core.Bool.{true, false}
 use mathlib.Core.List.{List, [], _∷_, _++_}
 use lib.ListN.{length, getD}
+use Rattle.numbers.specs.Between.{neither}
 use Rattle.words.specs.Bit.{bit}
 use Rattle.planner.specs.Fill.{Fill}
 use Rattle.planner.specs.Paint.{painted}
@@ -12,10 +13,6 @@ use Rattle.page.specs.PagePaints.{paintedAll}
 use Rattle.page.specs.Stage.{paintsBit, paintedBy}
 
 module _ (a i : ℕ) where
-  neither : (t u : Bool) → (t || u) ≡ false → (t ≡ false) × (u ≡ false)
-  neither true u e = absurd (true≢false e)
-  neither false u e = (refl, e)
-
   module _ (f : Fill) (fs : List Fill) (e : paintedBy (f ∷ fs) a i ≡ false) where
     pub spared-first : paintsBit f a i ≡ false
     unfolding paintedBy

@@ -103,10 +103,10 @@ module _ {A : Type 0} (made : Vram → A) (excluded : A) where
 
 -- ---- a stored length that is not one of the four is no `Vram`'s
 
-neither : (p : Bool) → (p && false) ≡ false
-neither true = refl
-neither false = refl
+and-false : (p : Bool) → (p && false) ≡ false
+and-false true = refl
+and-false false = refl
 
 pub other-length : (s : Registers) → partitionOk (s .stop) ≡ false → lawful s ≡ false
 unfolding lawful
-other-length s h = rw h (neither (((leb (s .persistent) 1 && leb (s .loaded) 1) && leb (s .waiting) 1) && (eqb (s .waiting) 1 || eqb (s .tap) 0)))
+other-length s h = rw h (and-false (((leb (s .persistent) 1 && leb (s .loaded) 1) && leb (s .waiting) 1) && (eqb (s .waiting) 1 || eqb (s .tap) 0)))

@@ -2,14 +2,14 @@
 use mathlib.Core.Path.{_≡_, refl, sym, ap, ap₂, _∙_, subst}
 use mathlib.Core.Bool.{Bool, true, false, not, _&&_, _||_}
 use Prim.Native.Nat.{ℕ, zero, suc, _+_, _-_, _*_, _/_, _%_, _^_, _≤_, _<_}
-use native.Mathlib.Nat.{mod-lt, div-add-mod', mod-eq-of-lt, pow-suc, mul-assoc}
+use native.Mathlib.Nat.{mod-lt, div-add-mod', mod-eq-of-lt, div-eq-of-lt, pow-suc, one-mul, mul-assoc}
 use native.Mathlib.Omega.{arith}
 use native.Mathlib.Numerals.{add-one}
 use lib.Dec.{eqb, leb}
 use lib.Bits.{bitAnd, bitOr, bitXor, and-shr, or-shr, xor-shr, and-mod, or-mod, xor-mod, and-mask, xor-add-and, shifted-even}
 use lib.Arith.{lt-one, digits-mod, digits-div}
-use lib.Pow.{pow-add, high, low, shr-shr, shr-lt, shl-shr, field, mod-mod-pow, ones-split, ones-lt}
-use borrow.Author.Tests.{leb-true, leb-false}
+use lib.Pow.{pow-add, pow-lt, high, low, shr-shr, shr-lt, shl-shr, field, mod-mod-pow, ones-split, ones-lt}
+use borrow.Author.Tests.{eq-eqb, ne-eqb, leb-true, leb-false}
 use Rattle.words.specs.Bit.{bit, digit, ofBits}
 
 -- ---- 0 or 1
@@ -226,3 +226,21 @@ pub bit-none : (b : ℕ) → bit 0 b ≡ false
 unfolding bit
 bit-none zero = refl
 bit-none (suc b) = sym (bit-half 0 b) ∙ bit-none b
+
+-- ---- a power of two has one bit
+
+bit-one : (j : ℕ) → bit 1 (suc j) ≡ false
+unfolding bit
+bit-one j = let h : 1 < 2 ^ suc j = pow-lt {i = 0} (omega arith) in rw (div-eq-of-lt h)
+
+pub bit-pow : (k b : ℕ) → bit (2 ^ k) b ≡ eqb b k
+unfolding bit
+bit-pow k b = ap (λ (n : ℕ). bit n b) (sym (one-mul (2 ^ k))) ∙ go (leb k b) refl
+  where
+    high : (j : ℕ) → b - k ≡ j → k ≤ b → bit 1 (b - k) ≡ eqb b k
+    high zero e h = ap (bit 1) e ∙ sym (eq-eqb b k (omega arith))
+    high (suc j) e h = ap (bit 1) e ∙ bit-one j ∙ sym (ne-eqb b k (λ z. omega arith))
+
+    go : (t : Bool) → leb k b ≡ t → bit (1 * 2 ^ k) b ≡ eqb b k
+    go true e = bit-mul-high 1 k b (leb-true k b e) ∙ high (b - k) refl (leb-true k b e)
+    go false e = let h : b < k = leb-false k b e in bit-mul-low 1 k b h ∙ sym (ne-eqb b k (λ z. omega arith))

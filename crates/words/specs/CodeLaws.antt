@@ -68,7 +68,7 @@ copies columns j b =
 spread-bit : (columns j b : ℕ) → b < 16 → bit (spread (firsts columns j)) b ≡ copies columns j b
 spread-bit columns j b h = simp (bit-or, bit-shl, bit-and, bit-shr)
 
-or-false : (p : Bool) → (p || false) ≡ p
+pub or-false : (p : Bool) → (p || false) ≡ p
 or-false true = refl
 or-false false = refl
 
