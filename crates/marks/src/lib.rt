@@ -1,5 +1,5 @@
-// Which rows changed: change request M-104. A list is run with a mark for each of the 512 rows, in 64 lent bytes: row r at bit r mod 8 of byte
-// r / 8. A mark is set when a word or block write that names the row has run, even if it changed no bit.
+// Which rows changed: change request M-104. A list is run with a mark for each of the 512 rows, in 64 lent bytes: row r at bit r mod 8
+// of byte r / 8. A mark is set when a word or block write that names the row has run, even if it changed no bit.
 ghost use mathlib.Core.Path.{_≡_};
 ghost use Rattle.vram.specs.Board.{board};
 ghost use Rattle.marks.specs.Calls.{lengthNumber, outcome, runCall, cleared, clearCall, nextCall};

@@ -1,8 +1,8 @@
 // Marks of rows in lent bytes: set by the writes of a list, cleared, searched.
 ghost use mathlib.Core.Path.{_≡_};
+ghost use mathlib.Core.Bool.{true};
 ghost use Prim.Native.Nat.{_-_, _≤_};
 ghost use lib.ListN.{length, replicate};
-ghost use mathlib.Core.Bool.{true};
 ghost use Rattle.list.specs.Tags.{cycleOf};
 ghost use Rattle.list.specs.Fields.{tag, body, whole, fields};
 ghost use Rattle.list.specs.Meaning.{readable, cyclesOf};
@@ -44,6 +44,7 @@ pub(crate) fn mark_writes(list: &[u8], marks: &mut [u8])
     }
 }
 
+// No row is marked.
 pub(crate) fn put_zeros(marks: &mut [u8])
     ensures { λ r. ⌜ now (marks .exit) ≡ replicate (length (now (marks .entry))) 0 ⌝ }
 {
@@ -68,7 +69,7 @@ pub(crate) fn first_from(marks: &[u8], start: usize) -> Found
         if left % 2 == 1 {
             break Found::Row(row as u16);
         }
-        // no mark is left in this byte: on to the next
+        // No mark is left in this byte: on to the next.
         row = if left == 0 { row / 8 * 8 + 8 } else { row + 1 };
     }
 }

@@ -49,6 +49,7 @@ fn waiting_of(waiting: u8, tap: u8) -> Waiting
     }
 }
 
+// The state as `vram` has it. Whoever calls this has asked `lawful`; other bytes are taken for some state all the same.
 pub fn take(state: Registers) -> Vram
     ensures { λ r. ⌜ r ≡ taken state ⌝ }
 {
@@ -65,6 +66,7 @@ pub fn take(state: Registers) -> Vram
     }
 }
 
+// The state as C has it.
 pub fn hand(state: Vram) -> Registers
     ensures { λ r. ⌜ r ≡ handed state ⌝ }
 {
