@@ -386,9 +386,10 @@ static inline size_t linkshoar_put_rectangle(uint8_t *at, uint16_t first_row, ui
 /* ---- Marks of rows
  *
  * Which rows changed, for a link that would else send the whole screen. Row r's mark is bit r mod 8 of byte r / 8, in LINKSHOAR_MARKS_BYTES
- * lent bytes. A mark is set when a word or block write that names its row has run, even if that changed no bit; a refused list sets none.
- * So a row that is not marked holds the words that it held when the marks were last cleared, as long as all drawing on that memory goes
- * through linkshoar_list_run_marked: lists that only transfer, clocks and panel runs draw nothing and may be called either way.
+ * lent bytes; it has nothing to do with the status mark in a word's high byte. A mark is set when a word or block write that names its row
+ * has run, even if that changed no bit; a refused list sets none. So a row that is not marked holds the words that it held when the marks
+ * were last cleared, as long as all drawing on that memory goes through linkshoar_list_run_marked: lists that only transfer, clocks and
+ * panel runs draw nothing and may be called either way.
  *
  * The link copies the memory once and clears the marks; then, after any number of lists, this brings its copy up to date:
  *
@@ -398,7 +399,7 @@ static inline size_t linkshoar_put_rectangle(uint8_t *at, uint16_t first_row, ui
  *
  * The loop visits every marked row once, from low to high, and ends after row 511 by itself: a start row of 512 is refused, so nothing is
  * found. Marks that were cleared and then set by marked runs on one memory name rows of that memory alone; bytes that were not cleared may
- * name rows that are not fitted. */
+ * name rows that are not fitted. Marks are of the memory: where the palette changes, a link that sends colours sends the whole screen. */
 
 /* ---- Calls */
 
