@@ -6,9 +6,10 @@
  * refuses with a number, and a refusal changes nothing that was lent, hands the state back as it came and answers zeros
  * besides, but for the place in a list or a page.
  *
- * What C owes: lengths that are true, in words or bytes as the pointer's type is; slices that do not overlap; yes-or-no bytes of 0 or 1 and
- * a stop of 16, 32, 64 or 128 inside a state (a state with another is refused with 1). A yes-or-no argument takes any number. Null with
- * length 0 is a lawful empty slice; but a lent linkshoar_palette * is never null, and it stands apart from the table.
+ * What C owes: lengths that are true, in words or bytes as the pointer's type is; slices that do not overlap. A state that no chip can have
+ * is refused with 1: yes-or-no bytes in it are 0 or 1, and the structs below say what the others may be; a fresh state, and what calls that
+ * are not refused make of it, is never such. A yes-or-no argument takes any number. Null with length 0 is a lawful empty slice; but a lent
+ * linkshoar_palette * is never null, and it stands apart from the table.
  *
  * Answers are compared member by member: the bytes between the members of a struct are not determined.
  *
@@ -134,7 +135,8 @@ typedef struct {
     uint8_t persistent;    /* 1 from a mask load to a reset refresh; since 4.7.0 a list that loads the mask resets it: no call makes 1 of 0 */
     uint8_t loaded;        /* 1 once a full transfer has been made */
     uint8_t pointer;       /* the place in the serial register that the next clock reads */
-    uint8_t waiting, tap;  /* waiting: 1 where a split transfer's tap waits for the end of the pointer's partition; else both are 0 */
+    uint8_t waiting, tap;  /* waiting: 1 where a split transfer's tap waits for the end of the pointer's partition; else both are 0. A tap waits
+                              only where loaded is 1, and in the half, 0 to 127 or 128 to 255, that the pointer is not in */
     uint8_t stop;          /* the length of a partition of the serial register: 16, 32, 64 or 128 */
 } linkshoar_vram;
 
@@ -302,7 +304,7 @@ static inline size_t linkshoar_put_transfer(uint8_t *at, uint8_t tag, uint16_t r
     return linkshoar_put_head(at, tag, 4);
 }
 
-/* Each of the eight writes one field at `at` and answers how many bytes that is. It writes what it is given: linkshoar_list_run judges. An
+/* Each of the eight writes one field at `at` and answers how many bytes that is. It writes what it is given: the run of the list judges. An
  * argument is as wide as its place in the field, and C cuts a wider number. */
 
 /* 13 bytes: the bits of one word that strobes and mask allow take the data's. */
@@ -386,20 +388,25 @@ static inline size_t linkshoar_put_rectangle(uint8_t *at, uint16_t first_row, ui
 /* ---- Marks of rows
  *
  * Which rows changed, for a link that would else send the whole screen. Row r's mark is bit r mod 8 of byte r / 8, in LINKSHOAR_MARKS_BYTES
- * lent bytes; it has nothing to do with the status mark in a word's high byte. A mark is set when a word or block write that names its row
- * has run, even if that changed no bit; a refused list sets none. So a row that is not marked holds the words that it held when the marks
- * were last cleared, as long as all drawing on that memory goes through linkshoar_list_run_marked: lists that only transfer, clocks and
- * panel runs draw nothing and may be called either way.
+ * lent bytes; it has nothing to do with the status mark in a word's high byte. Since marks were cleared a row is marked exactly when a word or
+ * block write that names it has been run by linkshoar_list_run_marked with these marks, even if that changed no bit. No other cycle marks a
+ * row, not even a transfer, which names one; a refused list marks none. So a row that is not marked holds the words that it held at the
+ * clearing, as long as all drawing on that memory is done so, with these same marks: a host that writes words in place draws too. A list
+ * without a word or block write may be run by linkshoar_list_run as well; clocks and panel runs draw nothing.
  *
- * The link copies the memory once and clears the marks; then, after any number of lists, this brings its copy up to date:
+ * The link copies the memory once and clears the marks, which clears bytes of any content; then, after any number of lists, this brings its
+ * copy up to date, with no list run between the first line and the last:
  *
- *   for (linkshoar_marked m = linkshoar_marks_next(marks, sizeof marks, 0); m.found; m = linkshoar_marks_next(marks, sizeof marks, m.row + 1))
+ *   linkshoar_marked m = linkshoar_marks_next(marks, LINKSHOAR_MARKS_BYTES, 0);
+ *   for (; m.found; m = linkshoar_marks_next(marks, LINKSHOAR_MARKS_BYTES, m.row + 1))
  *       send(m.row);
- *   linkshoar_marks_clear(marks, sizeof marks);
+ *   linkshoar_marks_clear(marks, LINKSHOAR_MARKS_BYTES);
  *
- * The loop visits every marked row once, from low to high, and ends after row 511 by itself: a start row of 512 is refused, so nothing is
- * found. Marks that were cleared and then set by marked runs on one memory name rows of that memory alone; bytes that were not cleared may
- * name rows that are not fitted. Marks are of the memory: where the palette changes, a link that sends colours sends the whole screen. */
+ * The loop visits every marked row once, from low to high, and ends by itself: with number 0 where no row is left, or after row 511 with 5,
+ * since a start row of 512 is refused and nothing is found. 18 is the only error: the marks are not 64 bytes, and nothing was sent. (Where
+ * marks is a pointer, sizeof marks is not 64.) Marks that were cleared and then set by marked runs on one memory name rows of that memory
+ * alone; bytes that were not cleared may name rows that are not fitted. Marks are of the memory: where the palette changes, a link that sends
+ * colours sends the whole screen. */
 
 /* ---- Calls */
 
@@ -407,19 +414,20 @@ static inline size_t linkshoar_put_rectangle(uint8_t *at, uint16_t first_row, ui
 linkshoar_vram linkshoar_vram_fresh(void);
 linkshoar_palette linkshoar_palette_fresh(void);
 
-/* Plans a fill: writes the shortest list that gives the rectangle's bits of mask the colour's, for linkshoar_list_run.
+/* Plans a fill: writes the shortest list that gives the rectangle's bits of mask the colour's, for linkshoar_list_run
+ * or, where rows are marked, linkshoar_list_run_marked.
  * rows: the rows fitted, 1 to 512, as many as the memory has on which the list is to run. The rectangle: rows first_row up to end_row,
  * columns first_column up to end_column, ends not included. mask: the bits to be painted; colour: the word that they take. persistent:
  * the state's, which must be 0. list, length: the room for the list; LINKSHOAR_LIST_BYTES is always enough. Refused with 2, 12, 13, 15. */
 linkshoar_filled linkshoar_fill(uint32_t rows, uint32_t first_row, uint32_t end_row, uint32_t first_column, uint32_t end_column,
                                 uint16_t mask, uint16_t colour, uint32_t persistent, uint8_t *list, size_t length);
 
-/* Plans a page: writes the lists of its rectangles' fills, joined, for linkshoar_list_run: the same bytes as calling linkshoar_fill for each
- * with the buffer moved along, and the sums of their bytes and cycles. Each rectangle's own part is shortest; the whole is not made
- * shorter, so a colour may be loaded twice. No rectangle gives an empty list. rows, persistent: as for linkshoar_fill. rectangles, length:
- * see "Pages". list, room: the room for the joined list, measured before a byte is written; LINKSHOAR_LIST_BYTES for each rectangle is always
- * enough. The rectangles and the list do not overlap. Refused with 2; then 4 and 12 by the first bad field, with its place; then 13;
- * then 15. */
+/* Plans a page: writes the lists of its rectangles' fills, joined, for linkshoar_list_run or linkshoar_list_run_marked: the same bytes as
+ * calling linkshoar_fill for each with the buffer moved along, and the sums of their bytes and cycles. Each rectangle's own part is
+ * shortest; the whole is not made shorter, so a colour may be loaded twice. No rectangle gives an empty list. rows, persistent: as for
+ * linkshoar_fill. rectangles, length: see "Pages". list, room: the room for the joined list, measured before a byte is written;
+ * LINKSHOAR_LIST_BYTES for each rectangle is always enough. The rectangles and the list do not overlap. Refused with 2; then 4 and 12 by the
+ * first bad field, with its place; then 13; then 15. */
 linkshoar_paged linkshoar_page(uint32_t rows, uint32_t persistent, const uint8_t *rectangles, size_t length, uint8_t *list, size_t room);
 
 /* Checks a list whole, then runs it in order; length: the list's bytes. A list with a mask load or a reset refresh, where it is not refused,
@@ -429,7 +437,8 @@ linkshoar_ran linkshoar_list_run(linkshoar_vram state, uint16_t *memory, size_t 
                                  const uint8_t *list, size_t length);
 
 /* The same, and each row that a word or block write of the list names is marked, if the list is not refused. marks, marks_bytes:
- * LINKSHOAR_MARKS_BYTES bytes; marks that are set stay set. Refused with 1 to 3; then with 18, at place 0; then as linkshoar_list_run is. */
+ * LINKSHOAR_MARKS_BYTES bytes, cleared once before (see "Marks of rows"); marks that are set stay set. Refused with 1 to 3; then with 18, at
+ * place 0; then as linkshoar_list_run is. */
 linkshoar_ran linkshoar_list_run_marked(linkshoar_vram state, uint16_t *memory, size_t words, uint16_t *serial, size_t serial_words,
                                         uint8_t *marks, size_t marks_bytes, const uint8_t *list, size_t length);
 
@@ -437,7 +446,7 @@ linkshoar_ran linkshoar_list_run_marked(linkshoar_vram state, uint16_t *memory, 
 uint32_t linkshoar_marks_clear(uint8_t *marks, size_t marks_bytes);
 
 /* The first marked row from start on, start itself included; found is 0 where there is none. Refused with 18; then 5 where start is over
- * 511. */
+ * 511. C cuts a start of more than 32 bits. */
 linkshoar_marked linkshoar_marks_next(const uint8_t *marks, size_t marks_bytes, uint32_t start);
 
 /* Reads a word; a byte not strobed is 0. strobes: one of LINKSHOAR_STROBES_. Refused with 2, 5, 6, 7. */

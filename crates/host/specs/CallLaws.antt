@@ -1,5 +1,5 @@
 -- Laws of the calls: the two ways out of each; a refusal hands the state back as it came and changes nothing lent; another length than the
--- four is refused. Assumes nothing.
+-- four is refused; none makes a mask persistent. Assumes nothing.
 use Prim.Native.Nat.{ℕ}
 use mathlib.Core.Path.{_≡_, refl, sym, ap, _∙_}
 use mathlib.Core.Bool.{Bool, true, false, cond}
@@ -11,18 +11,19 @@ use Rattle.vram.specs.Board.{Board, board}
 use Rattle.vram.specs.declared.Clocked.{Clocked as VramClocked}
 use Rattle.vram.specs.declared.Answered.{Answered}
 use Rattle.vram.specs.Calls.{clockCall as vramClock}
-use Rattle.vram.specs.CallLaws.{clock-refuses}
+use Rattle.vram.specs.CallLaws.{clock-refuses, clock-persistent}
 use Rattle.palette.specs.declared.Palette.{Palette}
 use Rattle.list.specs.declared.Ran.{Ran as ListRan}
 use Rattle.list.specs.Meaning.{Outcome as ListOutcome, outcome, runCall}
 use Rattle.list.specs.CallLaws.{call-given, call-refuses}
+use Rattle.list.specs.PersistLaws.{call-plain}
 use Rattle.panel.specs.Calls.{Outcome as PanelOutcome, outcome as panelOutcome, runCallBy as panelRunBy}
-use Rattle.panel.specs.CallLaws.{run-number, run-refuses}
+use Rattle.panel.specs.CallLaws.{run-number, run-refuses, run-persistent}
 use Rattle.panel.specs.WidthLaws.{same-answer}
 use Rattle.registers.specs.declared.Registers.{Registers}
 use Rattle.registers.specs.declared.Ran.{Ran}
-use Rattle.registers.specs.State.{lawful, taken, handed, handedRan}
-use Rattle.registers.specs.StateLaws.{handed-taken, taking-excluded, taking-done, taking-handed, taking-either, other-length}
+use Rattle.registers.specs.State.{lawful, taken, handed, handedRan, excludedRan}
+use Rattle.registers.specs.StateLaws.{handed-taken, taking-excluded, taking-done, taking-handed, taking-either, handed-plain, taking-plain, other-length}
 use Rattle.host.specs.declared.Clocked.{Clocked}
 use Rattle.host.specs.Calls.{Listed, listed, listAnswer, listCall, clockAnswer, clockCall, ShownTo, shown, panelAnswer, panelCallBy}
 
@@ -30,7 +31,7 @@ use Rattle.host.specs.Calls.{Listed, listed, listAnswer, listCall, clock
 
 module _ (s : Registers) where
   module _ (h : lawful s ≡ false) where
-    pub list-excluded : (m q list : List ℕ) → listed (record { state = s; number = 1; place = 0 }) m q ≡ listCall s m q list
+    pub list-excluded : (m q list : List ℕ) → listed (excludedRan s) m q ≡ listCall s m q list
     unfolding listCall
     list-excluded m q list = taking-excluded (λ v. listAnswer (runCall list (board v m q))) _ s h
 
@@ -128,7 +129,7 @@ module _ (s : Registers) where
 -- ---- a stored length that is not one of the four is 1, in each of these calls
 
 module _ (s : Registers) (h : partitionOk (s .stop) ≡ false) where
-  pub other-length-list : (m q list : List ℕ) → listCall s m q list ≡ listed (record { state = s; number = 1; place = 0 }) m q
+  pub other-length-list : (m q list : List ℕ) → listCall s m q list ≡ listed (excludedRan s) m q
   other-length-list m q list = sym (list-excluded s (other-length s h) m q list)
 
   pub other-length-clock : (r : List ℕ) → clockCall s r ≡ record { state = s; word = 0; number = 1 }
@@ -137,6 +138,28 @@ module _ (s : Registers) (h : partitionOk (s .stop) ≡ false) where
   pub other-length-panel : (parts : ℕ → ℕ) (r : List ℕ) (p : Palette) (t : List ℕ) (clocks blank : ℕ) (out : List ℕ)
       → panelCallBy parts s r p t clocks blank out ≡ shown (record { state = s; number = 1 }) out
   other-length-panel parts r p t clocks blank out = sym (panel-excluded s (other-length s h) parts r p t clocks blank out)
+
+-- ---- no call, accepted or refused, makes a mask persistent that was not
+
+module _ (s : Registers) (e : s .persistent ≡ 0) where
+  pub list-plain : (m q list : List ℕ) → listCall s m q list .answer .state .persistent ≡ 0
+  unfolding listCall
+  list-plain m q list =
+      taking-plain (λ v. listAnswer (runCall list (board v m q))) _ (λ (o : Listed). o .answer .state) s e
+      (λ v h. handed-plain (runCall list (board v m q) .after .state) (call-plain list (board v m q) h)) e
+
+  pub clock-plain : (r : List ℕ) → clockCall s r .state .persistent ≡ 0
+  unfolding clockCall
+  clock-plain r =
+      taking-plain (λ v. clockAnswer (vramClock v r)) _ (λ (o : Clocked). o .state) s e
+      (λ v h. handed-plain (vramClock v r .state) (clock-persistent v r ∙ h)) e
+
+  pub panel-plain : (parts : ℕ → ℕ) (r : List ℕ) (p : Palette) (t : List ℕ) (clocks blank : ℕ) (out : List ℕ)
+      → panelCallBy parts s r p t clocks blank out .answer .state .persistent ≡ 0
+  unfolding panelCallBy
+  panel-plain parts r p t clocks blank out =
+      taking-plain (λ v. panelAnswer (panelRunBy parts v r p t clocks blank out)) _ (λ (o : ShownTo). o .answer .state) s e
+      (λ v h. handed-plain (panelRunBy parts v r p t clocks blank out .answer .state) (run-persistent parts v r p t clocks blank out ∙ h)) e
 
 -- ---- both runs to the panel answer the same state and number
 

@@ -11,7 +11,7 @@ use Rattle.panel.specs.Panel.{widened, unwidened}
 use Rattle.panel.specs.Calls.{Outcome as PanelOutcome, runCallBy as panelRunBy}
 use Rattle.registers.specs.declared.Registers.{Registers}
 use Rattle.registers.specs.declared.Ran.{Ran}
-use Rattle.registers.specs.State.{handed, taking}
+use Rattle.registers.specs.State.{handed, taking, handedAnswer, excludedRan}
 use Rattle.host.specs.declared.Shown.{Shown}
 use Rattle.host.specs.declared.Clocked.{Clocked}
 
@@ -27,11 +27,11 @@ listed r m q = record { answer = r; memory = m; serial = q }
 
 abbrev pub listAnswer : Outcome → Listed
 listAnswer o =
-    listed (record { state = handed (o .after .state); number = o .given .number; place = o .given .place }) (o .after .memory) (o .after .serial)
+    listed (handedAnswer (o .given) (o .after .state)) (o .after .memory) (o .after .serial)
 
 unfoldable pub listCall : Registers → List ℕ → List ℕ → List ℕ → Listed
 listCall s m q list =
-    taking s (λ v. listAnswer (runCall list (board v m q))) (listed (record { state = s; number = 1; place = 0 }) m q)
+    taking s (λ v. listAnswer (runCall list (board v m q))) (listed (excludedRan s) m q)
 
 -- ---- a serial clock
 

@@ -38,18 +38,18 @@ module _ (s : List ℕ) (h : whole s ≡ true) where
       let e : word s 1 ≡ lenOf (tag s) = eqb-true _ _ (both (known (tag s)) (eqb (word s 1) (lenOf (tag s))) whole-headed .1) in
       omega (arith, e, len-most (tag s))
 
-  -- a number of its body, by its place in the field
-  pub body-word : (i : ℕ) → i + 1 < lenOf (tag s) → word (body s) i ≡ word s (3 + i)
-  unfolding word
-  body-word i h =
-      let e : 3 + (i + 1) ≡ 3 + i + 1 = omega arith in
-      ap₂ (λ (x y : ℕ). x * 256 + y)
-      (getD-take (lenOf (tag s)) (drop 3 s) i 0 (omega arith) ∙ getD-drop 3 s i 0)
-      (getD-take (lenOf (tag s)) (drop 3 s) (i + 1) 0 h ∙ getD-drop 3 s (i + 1) 0 ∙ ap (λ (n : ℕ). getD s n 0) e)
-
   pub field-whole : fieldOf s ≡ Reads (cycleOf (tag s) (body s)) (lenOf (tag s))
   unfolding fieldOf
   field-whole = rw h
+
+-- a number of a field's body, by its place in the field
+pub body-word : (s : List ℕ) (i : ℕ) → i + 1 < lenOf (tag s) → word (body s) i ≡ word s (3 + i)
+unfolding word
+body-word s i h =
+    let e : 3 + (i + 1) ≡ 3 + i + 1 = omega arith in
+    ap₂ (λ (x y : ℕ). x * 256 + y)
+    (getD-take (lenOf (tag s)) (drop 3 s) i 0 (omega arith) ∙ getD-drop 3 s i 0)
+    (getD-take (lenOf (tag s)) (drop 3 s) (i + 1) 0 h ∙ getD-drop 3 s (i + 1) 0 ∙ ap (λ (n : ℕ). getD s n 0) e)
 
 -- a field that is not cut short is whole where its header is good
 pub whole-is : (s : List ℕ) → 3 + lenOf (tag s) ≤ length s → whole s ≡ headed s

@@ -62,7 +62,7 @@ module _ (list : List ℕ) (b : Board) (h : verdictOf list b .number ≡ 0) wher
   pub call-performs : runCall list b .after ≡ runBy effect (cyclesOf list) b
   call-performs = call-runs list b h ∙ fields-perform 0 (fields list) b list-passes
 
--- ---- each cycle of an accepted list is one that is not refused, for the rows fitted
+-- ---- each cycle of an accepted list is one that is not refused, for the rows fitted and with a full transfer made or not
 
 each-accepted : (rows : ℕ) (made : Bool) (at : ℕ) (fs : List Field) → verdict rows made at fs .number ≡ 0
     → (c : Cycle) → List·Memᴰ c (cycles fs) → (m : Bool) × (refusal rows m c ≡ 0)

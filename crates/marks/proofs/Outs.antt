@@ -24,16 +24,16 @@ use Rattle.marks.specs.CallLaws.{length-fine, length-zero, length-other,
 -- ---- a list with marks: g is what 1 to 3 say, k what 18 says, n the first of both
 
 module _ (list : List ℕ) (b : Board) (marks : List ℕ) (g k n : ℕ) (p : g ≡ givenOf b) (q : k ≡ lengthNumber (length marks)) (e : n ≡ refuse (eqb g 0) g k) where
-  first : n ≡ firstOf (givenOf b) (lengthNumber (length marks))
-  first = e ∙ firstOf-is g k ∙ ap₂ firstOf p q
+  first-number : n ≡ firstOf (givenOf b) (lengthNumber (length marks))
+  first-number = e ∙ firstOf-is g k ∙ ap₂ firstOf p q
 
   pub first-out : n ≢ 0 → gives (bad n 0) b marks ≡ runCall list b marks
   first-out h = elim (ℕ-discrete (givenOf b) 0) [
     | yes z ↦
-        let l = first ∙ firstOf-later (givenOf b) _ z in
+        let l = first-number ∙ firstOf-later (givenOf b) _ z in
         let o : length marks ≢ 64 = λ y. h (l ∙ ap lengthNumber y ∙ length-fine) in
         out 18 (verdict-18 list b (length marks) z o) (l ∙ length-other (length marks) o)
-    | no y ↦ out (givenOf b) (verdict-first list b (length marks) y) (first ∙ firstOf-first (givenOf b) _ y)
+    | no y ↦ out (givenOf b) (verdict-first list b (length marks) y) (first-number ∙ firstOf-first (givenOf b) _ y)
   ]
     where
       out : (m : ℕ) → verdictOf list b (length marks) ≡ bad m 0 → n ≡ m → gives (bad n 0) b marks ≡ runCall list b marks
@@ -42,15 +42,15 @@ module _ (list : List ℕ) (b : Board) (marks : List ℕ) (g k n : ℕ) (p : g �
           ∙ sym (run-refuses-by effect list b marks (λ z. h (f ∙ sym (ap (λ (w : Bad). w .number) v) ∙ z)))
 
   module _ (z : n ≡ 0) (o : ListOutcome) (f : o ≡ listCall list b) where
-    whole : (left : List ℕ) → left ≡ leaves (o .given .number) marks (markedByAll (cyclesOf list) marks) → gives (o .given) (o .after) left ≡ runCall list b marks
-    whole left l =
-        let y = firstOf-zero (givenOf b) (lengthNumber (length marks)) (sym first ∙ z) in
+    marked-out : (left : List ℕ) → left ≡ leaves (o .given .number) marks (markedByAll (cyclesOf list) marks) → gives (o .given) (o .after) left ≡ runCall list b marks
+    marked-out left l =
+        let y = firstOf-zero (givenOf b) (lengthNumber (length marks)) (sym first-number ∙ z) in
         ap (gives (o .given) (o .after)) l
         ∙ ap (λ (x : ListOutcome). gives (x .given) (x .after) (leaves (x .given .number) marks (markedByAll (cyclesOf list) marks))) f
         ∙ sym (run-is effect list b marks (length-zero (length marks) (y .1)))
 
     pub refused-out : o .given .number ≢ 0 → gives (o .given) (o .after) marks ≡ runCall list b marks
-    refused-out h = whole marks (sym (leaves-before (o .given .number) marks _ h))
+    refused-out h = marked-out marks (sym (leaves-before (o .given .number) marks _ h))
 
     pub accepted-list : o .given .number ≡ 0 → readable (fields list) ≡ true
     accepted-list h =
@@ -58,7 +58,7 @@ module _ (list : List ℕ) (b : Board) (marks : List ℕ) (g k n : ℕ) (p : g �
         accepted-readable (rowsOf b) (b .state .loaded) 0 (fields list) (accepted-fields list b z)
 
     pub done-out : o .given .number ≡ 0 → (left : List ℕ) → left ≡ markedByAll (cyclesOf list) marks → gives (o .given) (o .after) left ≡ runCall list b marks
-    done-out h left l = whole left (l ∙ sym (leaves-made (o .given .number) marks _ h))
+    done-out h left l = marked-out left (l ∙ sym (leaves-made (o .given .number) marks _ h))
 
 -- ---- all marks cleared
 
@@ -76,19 +76,19 @@ module _ (marks : List ℕ) (n : ℕ) (e : n ≡ lengthNumber (length marks)) wh
 -- ---- the next marked row: k is what 18 says, l what 5 says, n the first of both
 
 module _ (marks : List ℕ) (start k l n : ℕ) (p : k ≡ lengthNumber (length marks)) (q : l ≡ refuse (leb start 511) 5 0) (f : n ≡ refuse (eqb k 0) k l) where
-  e : n ≡ nextNumber (length marks) start
+  number-is : n ≡ nextNumber (length marks) start
   unfolding nextNumber
-  e = f ∙ firstOf-is k l ∙ ap₂ firstOf p q
+  number-is = f ∙ firstOf-is k l ∙ ap₂ firstOf p q
 
   pub none-out : n ≢ 0 → answers n None ≡ nextCall marks start
   unfolding nextCall
-  none-out h = refused-is answers n (nextNumber (length marks) start) None (firstMarked marks start (512 - start)) e h
+  none-out h = refused-is answers n (nextNumber (length marks) start) None (firstMarked marks start (512 - start)) number-is h
 
   module _ (z : n ≡ 0) where
     pub search-fits : (length marks ≡ 64) × (start ≤ 511)
-    search-fits = next-zero marks start (sym e ∙ z)
+    search-fits = next-zero marks start (sym number-is ∙ z)
 
     pub found-out : (found : Found) → found ≡ firstMarked marks start (512 - start) → answers n found ≡ nextCall marks start
     unfolding nextCall
     found-out found g =
-        ap (λ (x : ℕ). answers x found) z ∙ done-is answers n (nextNumber (length marks) start) None (firstMarked marks start (512 - start)) found e z g
+        ap (λ (x : ℕ). answers x found) z ∙ done-is answers n (nextNumber (length marks) start) None (firstMarked marks start (512 - start)) found number-is z g

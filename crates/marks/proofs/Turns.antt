@@ -40,7 +40,7 @@ module _ (s : List ℕ) (w : whole s ≡ true) (marks : List ℕ) where
   pub mark-write : tag s ≤ 2 → mark (word s 3) marks ≡ markedBy (cycleOf (tag s) (body s)) marks
   mark-write h =
       let l = len-write (tag s) (omega arith) in
-      sym (by-write marks (tag s) (body s) (known-some (tag s) (whole-known s w)) h ∙ ap (λ (r : ℕ). mark r marks) (body-word s w 0 (omega arith)))
+      sym (by-write marks (tag s) (body s) (known-some (tag s) (whole-known s w)) h ∙ ap (λ (r : ℕ). mark r marks) (body-word s 0 (omega arith)))
 
   pub mark-none : 2 < tag s → marks ≡ markedBy (cycleOf (tag s) (body s)) marks
   mark-none h = sym (by-none marks (cycleOf (tag s) (body s)) (rw (cycle-tag (tag s) (body s) (whole-known s w)) h))

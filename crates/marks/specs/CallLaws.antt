@@ -11,14 +11,12 @@ use borrow.Author.Tests.{eq-eqb, ne-eqb, le-leb, lt-leb, eqb-true, leb-true}
 use Rattle.numbers.specs.Refuse.{leaves}
 use Rattle.numbers.specs.RefuseLaws.{refuse-zero, firstOf-zero, leaves-made, leaves-before}
 use Rattle.vram.specs.Board.{Board, effect}
-use Rattle.vram.specs.Step.{givenOf, rowsOf, Engine, stepBy, runBy}
+use Rattle.vram.specs.Step.{givenOf, Engine, stepBy, runBy}
 use Rattle.list.specs.declared.Bad.{Bad}
-use Rattle.list.specs.declared.Open.the-variants.{None as NoneOpen}
-use Rattle.list.specs.Fields.{fields}
-use Rattle.list.specs.Meaning.{bad, judged, cyclesOf, verdictOf as listVerdict, runCallBy as listCallBy}
+use Rattle.list.specs.Meaning.{bad, cyclesOf, verdictOf as listVerdict, runCallBy as listCallBy}
 use Rattle.list.specs.JudgeLaws.{bad-first, bad-later, bad-zero}
 use Rattle.list.specs.PersistLaws.{call-plain}
-use Rattle.list.specs.CallLaws.{verdict-given, verdict-judged, call-given-by, call-runs-by, call-refuses-by}
+use Rattle.list.specs.CallLaws.{verdict-given, call-given-by, call-runs-by, call-refuses-by}
 use Rattle.marks.specs.declared.Found.{Found}
 use Rattle.marks.specs.declared.Found.the-variants.{None, Row}
 use Rattle.marks.specs.Marks.{noMarks, markedByAll, firstMarked}
@@ -58,21 +56,17 @@ module _ (list : List ℕ) (b : Board) (bytes : ℕ) where
   pub verdict-list : bytes ≡ 64 → verdictOf list b bytes ≡ listVerdict list b
   unfolding verdictOf
   verdict-list e = elim (ℕ-discrete (givenOf b) 0) [
-    | yes g ↦ later g ∙ sym (verdict-judged list b g)
+    | yes g ↦ bad-later (bad (givenOf b) 0) _ g ∙ bad-later (bad (lengthNumber bytes) 0) _ (ap lengthNumber e ∙ length-fine)
     | no n ↦ verdict-first n ∙ sym (verdict-given list b n)
   ]
-    where
-      later : givenOf b ≡ 0 → verdictOf list b bytes ≡ judged (rowsOf b) (b .state .loaded) NoneOpen 0 (fields list)
-      later g = bad-later (bad (givenOf b) 0) _ g ∙ bad-later (bad (lengthNumber bytes) 0) _ (ap lengthNumber e ∙ length-fine)
 
   -- an accepted list is one that `list` accepts, with 64 bytes of marks
   pub verdict-zero : verdictOf list b bytes .number ≡ 0 → (bytes ≡ 64) × (listVerdict list b .number ≡ 0)
   unfolding verdictOf
   verdict-zero z =
       let p = bad-zero (bad (givenOf b) 0) _ z in
-      let q = bad-zero (bad (lengthNumber bytes) 0) (judged (rowsOf b) (b .state .loaded) NoneOpen 0 (fields list)) (p .1) in
-      let e = length-zero bytes (q .0) in
-      (e, ap (λ (v : Bad). v .number) (sym (verdict-list e)) ∙ z)
+      let q = bad-zero (bad (lengthNumber bytes) 0) (listVerdict list b) (p .1) in
+      (length-zero bytes (q .0), q .1)
 
 -- ---- the call, by any engine
 

@@ -6,12 +6,10 @@ use lib.Dec.{eqb, leb}
 use lib.ListN.{length}
 use Rattle.numbers.specs.Refuse.{refuse, firstOf, leaves}
 use Rattle.vram.specs.Board.{Board, board, effect}
-use Rattle.vram.specs.Step.{givenOf, rowsOf, Engine, stepBy, runBy}
+use Rattle.vram.specs.Step.{givenOf, Engine, stepBy, runBy}
 use Rattle.list.specs.declared.Bad.{Bad}
 use Rattle.list.specs.declared.Ran.{Ran}
-use Rattle.list.specs.declared.Open.the-variants.{None as NoneOpen}
-use Rattle.list.specs.Fields.{fields}
-use Rattle.list.specs.Meaning.{bad, firstBad, judged, cyclesOf}
+use Rattle.list.specs.Meaning.{bad, firstBad, cyclesOf, verdictOf as listVerdict}
 use Rattle.marks.specs.declared.Found.{Found}
 use Rattle.marks.specs.declared.Found.the-variants.{None, Row}
 use Rattle.marks.specs.declared.Marked.{Marked}
@@ -23,10 +21,9 @@ lengthNumber bytes = refuse (eqb bytes 64) 18 0
 
 -- ---- a list with marks
 
--- four steps: 1 to 3, and 18, with place 0; its fields in order; what they leave behind
+-- 1 to 3, and 18, with place 0; then what refuses the list
 unfoldable pub verdictOf : List ℕ → Board → ℕ → Bad
-verdictOf list b bytes =
-    firstBad (bad (givenOf b) 0) (firstBad (bad (lengthNumber bytes) 0) (judged (rowsOf b) (b .state .loaded) NoneOpen 0 (fields list)))
+verdictOf list b bytes = firstBad (bad (givenOf b) 0) (firstBad (bad (lengthNumber bytes) 0) (listVerdict list b))
 
 -- number and place, the board and the marks afterwards
 pub record Outcome : Type 0 where

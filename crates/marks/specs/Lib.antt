@@ -12,11 +12,17 @@ pub mod NextLaws
 pub mod CallLaws
 -- marked runs one after the other
 pub mod Runs
--- what they mark, and what they leave alone
+-- of the same
 pub mod RunLaws
--- the rows that a link visits
+-- since the clearing: which rows are marked, and what the others hold
+pub mod Since
+-- a link: the rows that it visits, and what it sends
 pub mod Walk
--- it visits each marked row once
+-- of a walk
 pub mod WalkLaws
--- the rows that a link sends
+-- `next` gives the least marked row; a walk visits each marked row once
+pub mod Visits
+-- of what is sent
+pub mod LinkLaws
+-- the link has the memory
 pub mod Link

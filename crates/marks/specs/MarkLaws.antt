@@ -1,16 +1,15 @@
 -- Laws of marks. Assumes nothing.
 use mathlib.Core.Path.{_≡_, refl, sym, ap, _∙_}
-use mathlib.Core.Bool.{Bool, true, false, _||_}
+use mathlib.Core.Bool.{Bool, true, false, _||_, or-false, or-assoc}
 use mathlib.Core.List.{List, [], _∷_, _++_}
 use Prim.Native.Nat.{ℕ, zero, suc, _/_, _%_, _^_, _≤_, _<_}
 use native.Mathlib.Omega.{arith}
 use lib.Dec.{eqb, lit≤}
-use lib.ListN.{length, getD, replicate, length-set}
+use lib.ListN.{length, length-set, getD-replicate}
 use lib.Seq.{getD-set-same, getD-set-other}
 use borrow.Author.Tests.{eqb-true, eqb-false, eq-eqb, ne-eqb}
 use Rattle.words.specs.Bit.{bit}
 use Rattle.words.specs.BitLaws.{bit-or, bit-none, bit-pow}
-use Rattle.words.specs.CodeLaws.{or-false}
 use Rattle.vram.specs.declared.Cycle.{Cycle}
 use Rattle.vram.specs.declared.Cycle.the-variants.{WordWrite, BlockWrite, LoadColour, LoadMask, ResetRefresh, FullTransfer, SplitTransfer, StopPoints}
 use Rattle.vram.specs.Kinds.{tagOf, names}
@@ -21,7 +20,12 @@ use Rattle.marks.specs.Marks.{isMarked, noMarks, mark, marking, writtenB
 
 -- ---- a mark
 
-pub mark-length : (r : ℕ) (marks : List ℕ) → length (mark r marks) ≡ length marks
+-- row 9 stands at bit 1 of byte 1
+pub mark-example : (mark 9 (0 ∷ 0 ∷ 0 ∷ []) ≡ 0 ∷ 2 ∷ 0 ∷ []) × (isMarked (0 ∷ 2 ∷ 0 ∷ []) 9 ≡ true)
+unfolding mark isMarked bit
+mark-example = (refl, refl)
+
+mark-length : (r : ℕ) (marks : List ℕ) → length (mark r marks) ≡ length marks
 unfolding mark
 mark-length r marks = simp length-set
 
@@ -48,7 +52,7 @@ unfolding marking
 marking-length [] marks = refl
 marking-length (r ∷ rows) marks = marking-length rows (mark r marks) ∙ mark-length r marks
 
-pub by-length : (c : Cycle) (marks : List ℕ) → length (markedBy c marks) ≡ length marks
+by-length : (c : Cycle) (marks : List ℕ) → length (markedBy c marks) ≡ length marks
 unfolding markedBy
 by-length c marks = marking-length (writtenBy c) marks
 
@@ -91,10 +95,6 @@ module _ (marks : List ℕ) where
 
 -- ---- and after cycles in order
 
-or-assoc : (p q r : Bool) → ((p || q) || r) ≡ (p || (q || r))
-or-assoc true q r = refl
-or-assoc false q r = refl
-
 pub all-length : (l : List Cycle) (marks : List ℕ) → length (markedByAll l marks) ≡ length marks
 unfolding markedByAll
 all-length [] marks = refl
@@ -116,11 +116,6 @@ all-append (c ∷ l) k marks = all-append l k (markedBy c marks)
 
 -- ---- where no row is marked, none is
 
-zero-byte : (n i : ℕ) → _≡_ {A = ℕ} (getD (replicate n 0) i 0) 0
-zero-byte zero i = refl
-zero-byte (suc n) zero = refl
-zero-byte (suc n) (suc i) = zero-byte n i
-
-pub none-marked : (q : ℕ) → isMarked noMarks q ≡ false
+pub none-marked : (q : ℕ) → q ≤ 511 → isMarked noMarks q ≡ false
 unfolding isMarked
-none-marked q = ap (λ (n : ℕ). bit n (q % 8)) (zero-byte 64 (q / 8)) ∙ bit-none (q % 8)
+none-marked q h = ap (λ (n : ℕ). bit n (q % 8)) (getD-replicate 64 (q / 8) 0 0 (omega arith)) ∙ bit-none (q % 8)

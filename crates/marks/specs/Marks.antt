@@ -1,6 +1,7 @@
 -- Marks of rows as bits of bytes, and what sets them: change request M-104. Assumes nothing.
-use Prim.Native.Nat.{ℕ, zero, suc, _/_, _%_, _^_}
-use mathlib.Core.Bool.{Bool, false, _||_, cond}
+use mathlib.Core.Path.{_≡_}
+use Prim.Native.Nat.{ℕ, zero, suc, _/_, _%_, _^_, _≤_, _<_}
+use mathlib.Core.Bool.{Bool, true, false, _||_, cond}
 use mathlib.Core.List.{List, [], _∷_}
 use lib.Bits.{bitOr}
 use lib.ListN.{getD, set, replicate}
@@ -28,7 +29,8 @@ unfoldable pub marking : List ℕ → List ℕ → List ℕ
 marking [] marks = marks
 marking (r ∷ rows) marks = marking rows (mark r marks)
 
--- the row that a cycle writes to, whatever it changes: a word or block write names one, and no other cycle writes
+-- the rows that a cycle writes to, whatever it changes there: a word or block write has the one that it names, and no other cycle writes to
+-- the memory
 unfoldable pub writtenBy : Cycle → List ℕ
 writtenBy (WordWrite row column word masking mask strobes) = row ∷ []
 writtenBy (BlockWrite row column columns masking mask strobes) = row ∷ []
@@ -57,3 +59,8 @@ namedIn r (c ∷ l) = names r c || namedIn r l
 unfoldable pub firstMarked : List ℕ → ℕ → ℕ → Found
 firstMarked marks r zero = None
 firstMarked marks r (suc n) = cond (isMarked marks r) (Row r) (firstMarked marks (suc r) n)
+
+-- what is found is the least marked of the rows from r up to an end; none, where none of them is marked
+abbrev pub Least : List ℕ → ℕ → ℕ → Found → Type 0
+Least marks r end None = (q : ℕ) → r ≤ q → q < end → isMarked marks q ≡ false
+Least marks r end (Row s) = (r ≤ s) × (s < end) × (isMarked marks s ≡ true) × ((q : ℕ) → r ≤ q → q < s → isMarked marks q ≡ false)

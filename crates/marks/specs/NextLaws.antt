@@ -12,7 +12,7 @@ use Rattle.words.specs.Bit.{bit}
 use Rattle.words.specs.BitLaws.{bit-shr, bit-none}
 use Rattle.marks.specs.declared.Found.{Found}
 use Rattle.marks.specs.declared.Found.the-variants.{None, Row}
-use Rattle.marks.specs.Marks.{isMarked, firstMarked}
+use Rattle.marks.specs.Marks.{isMarked, firstMarked, Least}
 
 module _ (marks : List ℕ) where
   -- ---- row by row
@@ -25,7 +25,7 @@ module _ (marks : List ℕ) where
   unfolding firstMarked
   first-marked r n h = rw h
 
-  pub first-past : (r n : ℕ) → isMarked marks r ≡ false → firstMarked marks r (suc n) ≡ firstMarked marks (suc r) n
+  first-past : (r n : ℕ) → isMarked marks r ≡ false → firstMarked marks r (suc n) ≡ firstMarked marks (suc r) n
   unfolding firstMarked
   first-past r n h = rw h
 
@@ -42,11 +42,7 @@ module _ (marks : List ℕ) where
 
   -- ---- what is found is the least marked row, and none is found exactly where none is marked
 
-  abbrev pub Least : ℕ → ℕ → Found → Type 0
-  Least r n None = (q : ℕ) → r ≤ q → q < r + n → isMarked marks q ≡ false
-  Least r n (Row s) = (r ≤ s) × (s < r + n) × (isMarked marks s ≡ true) × ((q : ℕ) → r ≤ q → q < s → isMarked marks q ≡ false)
-
-  pub first-least : (n r : ℕ) → Least r n (firstMarked marks r n)
+  pub first-least : (n r : ℕ) → Least marks r (r + n) (firstMarked marks r n)
   unfolding firstMarked
   first-least zero r = λ q h k. absurd (omega arith)
   first-least (suc n) r = go (isMarked marks r) refl (firstMarked marks (suc r) n) (first-least n (suc r))
@@ -59,17 +55,17 @@ module _ (marks : List ℕ) where
         | no z ↦ f q (omega arith) k
       ]
 
-      go : (t : Bool) → isMarked marks r ≡ t → (f : Found) → Least (suc r) n f → Least r (suc n) (cond t (Row r) f)
+      go : (t : Bool) → isMarked marks r ≡ t → (f : Found) → Least marks (suc r) (suc r + n) f → Least marks r (r + suc n) (cond t (Row r) f)
       go true e f l = (omega arith, omega arith, e, λ q h k. absurd (omega arith))
       go false e None l = λ q h k. later e (suc r + n) l q h (omega arith)
       go false e (Row s) l = (omega (arith, l .0), omega (arith, l .1), l .2, later e s (l .3))
 
   -- no two differ that are least: so what is least is found, and none where no row is marked
-  one-least : (r n : ℕ) (f g : Found) → Least r n f → Least r n g → f ≡ g
-  one-least r n None None h k = refl
-  one-least r n None (Row t) h k = absurd (true≢false (sym (k .2) ∙ h t (k .0) (k .1)))
-  one-least r n (Row s) None h k = absurd (true≢false (sym (h .2) ∙ k s (h .0) (h .1)))
-  one-least r n (Row s) (Row t) h k = elim (decLt s t) [
+  one-least : (r end : ℕ) (f g : Found) → Least marks r end f → Least marks r end g → f ≡ g
+  one-least r end None None h k = refl
+  one-least r end None (Row t) h k = absurd (true≢false (sym (k .2) ∙ h t (k .0) (k .1)))
+  one-least r end (Row s) None h k = absurd (true≢false (sym (h .2) ∙ k s (h .0) (h .1)))
+  one-least r end (Row s) (Row t) h k = elim (decLt s t) [
     | yes l ↦ absurd (true≢false (sym (h .2) ∙ k .3 s (h .0) l))
     | no m ↦ elim (decLt t s) [
       | yes l ↦ absurd (true≢false (sym (k .2) ∙ h .3 t (k .0) l))
@@ -77,8 +73,8 @@ module _ (marks : List ℕ) where
     ]
   ]
 
-  pub first-only : (n r : ℕ) (f : Found) → Least r n f → firstMarked marks r n ≡ f
-  first-only n r f l = one-least r n (firstMarked marks r n) f (first-least n r) l
+  pub first-only : (n r : ℕ) (f : Found) → Least marks r (r + n) f → firstMarked marks r n ≡ f
+  first-only n r f l = one-least r (r + n) (firstMarked marks r n) f (first-least n r) l
 
   -- ---- one byte
 

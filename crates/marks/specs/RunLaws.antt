@@ -1,10 +1,9 @@
--- What marked runs mark, and what they leave alone: change request M-104. Assumes nothing.
+-- Laws of marked runs: what they mark, and what they leave alone. Assumes nothing.
 use mathlib.Core.Path.{_≡_, refl, sym, ap, _∙_, subst}
-use mathlib.Core.Bool.{Bool, true, false, _||_, true≢false}
+use mathlib.Core.Bool.{Bool, true, false, _||_, or-assoc, true≢false}
 use mathlib.Core.List.{List, [], _∷_, _++_, List·Memᴰ, List·Memᴰ·head, List·Memᴰ·tail}
 use mathlib.Core.Logic.{_≢_}
-use Prim.Native.Nat.{ℕ, _/_, _≤_, _<_}
-use native.Mathlib.Omega.{arith}
+use Prim.Native.Nat.{ℕ, _/_, _<_}
 use native.Mathlib.Decide.{ℕ-discrete}
 use lib.ListN.{length}
 use Rattle.numbers.specs.RefuseLaws.{leaves-made, leaves-before}
@@ -20,25 +19,22 @@ use Rattle.list.specs.declared.Bad.{Bad}
 use Rattle.list.specs.Meaning.{cyclesOf}
 use Rattle.list.specs.CallLaws.{call-runs}
 use Rattle.list.specs.PerformLaws.{call-performs, accepted-cycle}
-use Rattle.marks.specs.Marks.{isMarked, noMarks, markedByAll, namedIn}
-use Rattle.marks.specs.MarkLaws.{all-length, all-marks, all-append, none-marked}
-use Rattle.marks.specs.Calls.{Outcome, verdictOf, clearCall}
-use Rattle.marks.specs.CallLaws.{verdict-zero, run-given-by, run-refuses-by, run-runs-by, clear-clears}
-use Rattle.marks.specs.Runs.{Run, Drawn, drawn, boardOf, callOf, ran, after, ranAll, afterAll, since}
+use Rattle.marks.specs.Marks.{isMarked, markedByAll, namedIn}
+use Rattle.marks.specs.MarkLaws.{all-marks, all-append}
+use Rattle.marks.specs.Calls.{Outcome, verdictOf}
+use Rattle.marks.specs.CallLaws.{verdict-zero, run-given-by, run-refuses-by, run-runs-by}
+use Rattle.marks.specs.Runs.{Run, Drawn, drawn, boardOf, callOf, ran, after, ranAll, afterAll}
 
 -- ---- cycles and rows
 
-pub named-append : (q : ℕ) (l k : List Cycle) → namedIn q (l ++ k) ≡ (namedIn q l || namedIn q k)
+named-append : (q : ℕ) (l k : List Cycle) → namedIn q (l ++ k) ≡ (namedIn q l || namedIn q k)
 unfolding namedIn
 named-append q [] k = refl
-named-append q (c ∷ l) k = go (names q c) (named-append q l k)
-  where
-    go : (t : Bool) → namedIn q (l ++ k) ≡ (namedIn q l || namedIn q k) → (t || namedIn q (l ++ k)) ≡ ((t || namedIn q l) || namedIn q k)
-    go true e = refl
-    go false e = e
+named-append q (c ∷ l) k =
+    ap (λ (t : Bool). names q c || t) (named-append q l k) ∙ sym (or-assoc (names q c) (namedIn q l) (namedIn q k))
 
 -- a row that no write names holds the words that it held
-pub run-row : (q : ℕ) (l : List Cycle) (b : Board) → namedIn q l ≡ false → rowOf q (run l b .memory) ≡ rowOf q (b .memory)
+run-row : (q : ℕ) (l : List Cycle) (b : Board) → namedIn q l ≡ false → rowOf q (run l b .memory) ≡ rowOf q (b .memory)
 unfolding namedIn
 run-row q [] b h = ap (λ (x : Board). rowOf q (x .memory)) (run-none step b)
 run-row q (c ∷ l) b h =
@@ -59,7 +55,7 @@ module _ (r : Run) (d : Drawn) where
   unfolding ran
   ran-refused n = leaves-before _ [] (cyclesOf (r .list)) (λ z. n (sym (ap (λ (v : Bad). v .number) (run-given-by effect (r .list) (boardOf r d) (d .marks))) ∙ z))
 
-  -- each of the cycles that have run has had its effect, in order, and nothing else has drawn: so `ran` is what the rules call run
+  -- what a run leaves is the effect of each cycle of `ran`, in order: none is passed over, and nothing else has drawn
   pub ran-performs : callOf r d .after ≡ runBy effect (ran r d) (boardOf r d)
   ran-performs = elim (ℕ-discrete (verdict .number) 0) [
     | yes z ↦
@@ -74,8 +70,8 @@ module _ (r : Run) (d : Drawn) where
   ]
 
   -- the marks are those of the cycles that have run, and the memory is what these leave
-  pub after-ran : after r d ≡ drawn (run (ran r d) (boardOf r d) .memory) (markedByAll (ran r d) (d .marks))
-  unfolding after markedByAll
+  after-ran : after r d ≡ drawn (run (ran r d) (boardOf r d) .memory) (markedByAll (ran r d) (d .marks))
+  unfolding markedByAll
   after-ran = elim (ℕ-discrete (verdict .number) 0) [
     | yes z ↦
         ap (λ (o : Outcome). drawn (o .after .memory) (o .marks)) (run-runs-by effect (r .list) (boardOf r d) (d .marks) z)
@@ -86,10 +82,18 @@ module _ (r : Run) (d : Drawn) where
         ∙ ap (λ (b : Board). drawn (b .memory) (d .marks)) (run-none step (boardOf r d)))
   ]
 
-  pub after-memory-length : length (after r d .memory) ≡ length (d .memory)
+  after-memory-length : length (after r d .memory) ≡ length (d .memory)
   after-memory-length = ap (λ (x : Drawn). length (x .memory)) after-ran ∙ run-sized (ran r d) (boardOf r d) .memory
 
 -- ---- any number of runs
+
+pub all-none : (d : Drawn) → afterAll [] d ≡ d
+unfolding afterAll
+all-none d = refl
+
+pub all-next : (r : Run) (rs : List Run) (d : Drawn) → afterAll (r ∷ rs) d ≡ afterAll rs (after r d)
+unfolding afterAll
+all-next r rs d = refl
 
 pub all-memory-length : (rs : List Run) (d : Drawn) → length (afterAll rs d .memory) ≡ length (d .memory)
 unfolding afterAll
@@ -151,28 +155,3 @@ runs-fitted (r ∷ rs) d q e = go (namedIn q (ran r d)) refl (runs-fitted rs (af
         → (t || namedIn q (ranAll rs (after r d))) ≡ true → q < length (d .memory) / 512
     go true n ih f = ran-fitted r d q n
     go false n ih f = subst (λ (k : ℕ). q < k / 512) (after-memory-length r d) (ih f)
-
--- ---- since the clearing
-
-module _ (marks : List ℕ) (e : length marks ≡ 64) (rs : List Run) (memory : List ℕ) where
-  clean : clearCall marks .marks ≡ noMarks
-  clean = ap (λ c. c .marks) (clear-clears marks e)
-
-  pub since-length : length (afterAll rs (since marks memory) .marks) ≡ 64
-  since-length =
-      ap length (all-marked rs (since marks memory)) ∙ all-length (ranAll rs (since marks memory)) (clearCall marks .marks) ∙ ap length clean
-
-  -- a row is marked exactly where a word or block write that names it has run since
-  pub marked-since : (q : ℕ) → q ≤ 511 → isMarked (afterAll rs (since marks memory) .marks) q ≡ namedIn q (ranAll rs (since marks memory))
-  marked-since q h =
-      runs-mark rs (since marks memory) q (rw clean (omega arith))
-      ∙ ap (λ (t : Bool). t || namedIn q (ranAll rs (since marks memory))) (ap (λ (m : List ℕ). isMarked m q) clean ∙ none-marked q)
-
-  -- a row that is not marked holds the words that it held at the clearing, all 512 of them
-  pub unmarked-holds : (q : ℕ) → q ≤ 511 → isMarked (afterAll rs (since marks memory) .marks) q ≡ false
-      → rowOf q (afterAll rs (since marks memory) .memory) ≡ rowOf q memory
-  unmarked-holds q h u = runs-row rs (since marks memory) q (sym (marked-since q h) ∙ u)
-
-  -- and only rows that are fitted are marked
-  pub marked-fitted : (q : ℕ) → q ≤ 511 → isMarked (afterAll rs (since marks memory) .marks) q ≡ true → q < length memory / 512
-  marked-fitted q h u = runs-fitted rs (since marks memory) q (sym (marked-since q h) ∙ u)

@@ -34,7 +34,7 @@ unfoldable pub ran : Run → Drawn → List Cycle
 ran r d = leaves (callOf r d .given .number) [] (cyclesOf (r .list))
 
 -- what it leaves
-unfoldable pub after : Run → Drawn → Drawn
+abbrev pub after : Run → Drawn → Drawn
 after r d = drawn (callOf r d .after .memory) (callOf r d .marks)
 
 -- ---- runs in order
@@ -47,6 +47,18 @@ unfoldable pub afterAll : List Run → Drawn → Drawn
 afterAll [] d = d
 afterAll (r ∷ rs) d = afterAll rs (after r d)
 
+-- ---- since a clearing
+
 -- a memory, and marks that have just been cleared
 abbrev pub since : List ℕ → List ℕ → Drawn
-since marks memory = drawn memory (clearCall marks .marks)
+since memory marks = drawn memory (clearCall marks .marks)
+
+-- the cycles that runs have performed since, and what the memory and the marks are then
+abbrev pub ranSince : List ℕ → List ℕ → List Run → List Cycle
+ranSince memory marks rs = ranAll rs (since memory marks)
+
+abbrev pub memorySince : List ℕ → List ℕ → List Run → List ℕ
+memorySince memory marks rs = afterAll rs (since memory marks) .memory
+
+abbrev pub marksSince : List ℕ → List ℕ → List Run → List ℕ
+marksSince memory marks rs = afterAll rs (since memory marks) .marks

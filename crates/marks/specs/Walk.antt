@@ -1,9 +1,10 @@
--- The rows that a link visits that goes from marked row to marked row by `next`. Assumes nothing.
-use Prim.Native.Nat.{ℕ, zero, suc, _+_}
+-- A link that goes from marked row to marked row by `next`: the rows that it visits, and what it sends. Assumes nothing.
+use Prim.Native.Nat.{ℕ, zero, suc, _+_, _*_}
 use mathlib.Core.Bool.{cond}
 use mathlib.Core.List.{List, [], _∷_}
 use lib.Dec.{eqb}
 use Rattle.words.specs.Bit.{digit}
+use Rattle.vram.specs.Memory.{copied}
 use Rattle.marks.specs.declared.Found.{Found}
 use Rattle.marks.specs.declared.Found.the-variants.{None, Row}
 use Rattle.marks.specs.Marks.{isMarked}
@@ -25,6 +26,11 @@ markedRows marks r zero = []
 markedRows marks r (suc n) = cond (isMarked marks r) (r ∷ markedRows marks (suc r) n) (markedRows marks (suc r) n)
 
 -- how often a row stands in a list of rows
-unfoldable pub times : ℕ → List ℕ → ℕ
-times q [] = 0
-times q (r ∷ rows) = digit (eqb r q) + times q rows
+unfoldable pub howOften : ℕ → List ℕ → ℕ
+howOften q [] = 0
+howOften q (r ∷ rows) = digit (eqb r q) + howOften q rows
+
+-- a copy of the memory, with some rows sent: each row's words are the memory's then
+unfoldable pub sentRows : List ℕ → List ℕ → List ℕ → List ℕ
+sentRows memory [] copy = copy
+sentRows memory (r ∷ rows) copy = sentRows memory rows (copied memory (512 * r) copy (512 * r) 512)

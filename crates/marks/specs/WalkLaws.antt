@@ -1,7 +1,7 @@
--- A link that goes from marked row to marked row visits each once, and no other row. Assumes nothing.
+-- Laws of a walk from marked row to marked row. Assumes nothing.
 use mathlib.Core.Path.{_≡_, refl, sym, ap, _∙_}
 use mathlib.Core.Bool.{Bool, true, false, cond}
-use mathlib.Core.List.{List, _∷_}
+use mathlib.Core.List.{List, [], _∷_}
 use mathlib.Core.Logic.{_≢_}
 use Prim.Native.Nat.{ℕ, zero, suc, _+_, _-_, _≤_, _<_}
 use native.Mathlib.Omega.{arith}
@@ -14,13 +14,25 @@ use Rattle.words.specs.Bit.{digit}
 use Rattle.marks.specs.declared.Found.{Found}
 use Rattle.marks.specs.declared.Found.the-variants.{None, Row}
 use Rattle.marks.specs.declared.Marked.{Marked}
-use Rattle.marks.specs.Marks.{isMarked, firstMarked}
-use Rattle.marks.specs.NextLaws.{Least, first-least}
+use Rattle.marks.specs.Marks.{isMarked, firstMarked, Least}
+use Rattle.marks.specs.NextLaws.{first-least}
 use Rattle.marks.specs.Calls.{nextCall}
 use Rattle.marks.specs.CallLaws.{next-5, next-finds}
-use Rattle.marks.specs.Walk.{goesOn, visited, markedRows, times}
+use Rattle.marks.specs.Walk.{goesOn, visited, markedRows, howOften}
 
 module _ (marks : List ℕ) where
+  -- ---- call by call
+
+  pub visited-none : (start : ℕ) → visited marks 0 start ≡ []
+  unfolding visited
+  visited-none start = refl
+
+  pub visited-next : (k start : ℕ) → visited marks (suc k) start ≡ goesOn (nextCall marks start .found) (visited marks k)
+  unfolding visited
+  visited-next k start = refl
+
+  -- ---- row by row
+
   -- the marked rows are the first and those after it
   rows-first : (n r : ℕ) → markedRows marks r n ≡ goesOn (firstMarked marks r n) (λ s. markedRows marks s (r + n - s))
   unfolding markedRows firstMarked
@@ -43,7 +55,7 @@ module _ (marks : List ℕ) where
     visits-rows (suc k) start l m = go (visits-rows k)
       where
         -- by what is found
-        case : (f : Found) → Least marks start (512 - start) f → ((s : ℕ) → s ≤ 512 → 512 - s ≤ k → visited marks k s ≡ markedRows marks s (512 - s))
+        case : (f : Found) → Least marks start (start + (512 - start)) f → ((s : ℕ) → s ≤ 512 → 512 - s ≤ k → visited marks k s ≡ markedRows marks s (512 - s))
             → goesOn f (visited marks k) ≡ goesOn f (λ s. markedRows marks s (start + (512 - start) - s))
         case None z ih = refl
         case (Row s) z ih =
@@ -66,28 +78,28 @@ module _ (marks : List ℕ) where
   -- ---- each once
 
   -- a row that is none of the n does not stand there
-  outside : (n r q : ℕ) → (r ≤ q → q < r + n → ⊥) → times q (markedRows marks r n) ≡ 0
-  unfolding markedRows times
+  pub outside : (n r q : ℕ) → (r ≤ q → q < r + n → ⊥) → howOften q (markedRows marks r n) ≡ 0
+  unfolding markedRows howOften
   outside zero r q h = refl
   outside (suc n) r q h = go (isMarked marks r) (outside n (suc r) q (λ k l. h (omega arith) (omega arith)))
     where
       other : r ≢ q
       other e = h (omega arith) (omega arith)
 
-      go : (t : Bool) → times q (markedRows marks (suc r) n) ≡ 0
-          → times q (cond t (r ∷ markedRows marks (suc r) n) (markedRows marks (suc r) n)) ≡ 0
+      go : (t : Bool) → howOften q (markedRows marks (suc r) n) ≡ 0
+          → howOften q (cond t (r ∷ markedRows marks (suc r) n) (markedRows marks (suc r) n)) ≡ 0
       go true ih = rw (ne-eqb r q other) (omega arith)
       go false ih = ih
 
   -- one of them stands there once where it is marked
-  among : (n r q : ℕ) → r ≤ q → q < r + n → times q (markedRows marks r n) ≡ digit (isMarked marks q)
-  unfolding markedRows times
+  pub among : (n r q : ℕ) → r ≤ q → q < r + n → howOften q (markedRows marks r n) ≡ digit (isMarked marks q)
+  unfolding markedRows howOften
   among zero r q h l = absurd (omega arith)
   among (suc n) r q h l = go (isMarked marks r) refl (eqb r q) refl (among n (suc r) q)
     where
       go : (t : Bool) → isMarked marks r ≡ t → (u : Bool) → eqb r q ≡ u
-          → (suc r ≤ q → q < suc r + n → times q (markedRows marks (suc r) n) ≡ digit (isMarked marks q))
-          → times q (cond t (r ∷ markedRows marks (suc r) n) (markedRows marks (suc r) n)) ≡ digit (isMarked marks q)
+          → (suc r ≤ q → q < suc r + n → howOften q (markedRows marks (suc r) n) ≡ digit (isMarked marks q))
+          → howOften q (cond t (r ∷ markedRows marks (suc r) n) (markedRows marks (suc r) n)) ≡ digit (isMarked marks q)
       go true e true f ih =
           let z : r ≡ q = eqb-true r q f in
           rw (f, outside n (suc r) q (λ k m. omega arith)) (ap digit (sym e ∙ ap (isMarked marks) z))
@@ -96,19 +108,7 @@ module _ (marks : List ℕ) where
           outside n (suc r) q (λ k m. omega arith) ∙ ap digit (sym e ∙ ap (isMarked marks) z)
       go true e false f ih =
           let z : r ≢ q = eqb-false r q f in
-          rw (f, zero-add (times q (markedRows marks (suc r) n))) (ih (omega arith) (omega arith))
+          rw (f, zero-add (howOften q (markedRows marks (suc r) n))) (ih (omega arith) (omega arith))
       go false e false f ih =
           let z : r ≢ q = eqb-false r q f in
           ih (omega arith) (omega arith)
-
--- the whole walk, from row 0 on
-module _ (marks : List ℕ) (h : length marks ≡ 64) (k : ℕ) (l : 512 ≤ k) where
-  pub walk-rows : visited marks k 0 ≡ markedRows marks 0 512
-  walk-rows = visits-rows marks h k 0 (omega arith) (omega arith)
-
-  -- every marked row is visited once, and no other row
-  pub walk-once : (q : ℕ) → q ≤ 511 → times q (visited marks k 0) ≡ digit (isMarked marks q)
-  walk-once q m = ap (times q) walk-rows ∙ among marks 512 0 q (omega arith) (omega arith)
-
-  pub walk-within : (q : ℕ) → 511 < q → times q (visited marks k 0) ≡ 0
-  walk-within q m = ap (times q) walk-rows ∙ outside marks 512 0 q (λ k n. omega arith)

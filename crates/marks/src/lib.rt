@@ -43,7 +43,8 @@ pub fn run(
     ensures { λ r. ⌜ outcome r (now (memory .exit)) (now (serial .exit)) (now (marks .exit)) ≡ runCall (now (list .entry)) (board state (now (memory .entry)) (now (serial .entry))) (now (marks .entry)) ⌝ }
 {
     let given = state.given(memory.len(), serial.len());
-    let n = refuse(given == numbers::DONE, given, length_number(marks.len()));
+    let length = length_number(marks.len());
+    let n = refuse(given == numbers::DONE, given, length);
     if n != numbers::DONE {
         return Ran {
             state,
@@ -52,7 +53,8 @@ pub fn run(
         };
     }
     let ran = list::run(state, memory, serial, list);
-    if ran.number != numbers::DONE {
+    let number = ran.number;
+    if number != numbers::DONE {
         return ran;
     }
     mark_writes(list, marks);

@@ -10,7 +10,7 @@ ghost use Rattle.marks.specs.Marks.{mark, markedBy, markedByAll, firstMa
 use crate::Found;
 use list::number_at;
 
-// A row that has no bit among the bytes is not marked: a write that has run names none.
+// A row that has no byte here is left alone: no write that has run names such a row.
 fn mark_row(row: u16, marks: &mut [u8])
     ensures { λ r. ⌜ now (marks .exit) ≡ mark row (now (marks .entry)) ⌝ }
 {

@@ -10,12 +10,12 @@ use Rattle.vram.specs.Board.{Board, board, effect}
 use Rattle.list.specs.declared.Ran.{Ran as ListRan}
 use Rattle.registers.specs.declared.Registers.{Registers}
 use Rattle.registers.specs.declared.Ran.{Ran}
-use Rattle.registers.specs.State.{lawful, taken, handed, handedRan}
-use Rattle.registers.specs.StateLaws.{handed-taken, taking-excluded, taking-done, taking-handed, taking-either, other-length}
+use Rattle.registers.specs.State.{lawful, taken, handed, handedAnswer, handedRan, excludedRan}
+use Rattle.registers.specs.StateLaws.{handed-taken, taking-excluded, taking-done, taking-handed, taking-either, handed-plain, taking-plain, other-length}
 use Rattle.marks.specs.declared.Found.{Found}
 use Rattle.marks.specs.declared.Marked.{Marked as Below}
 use Rattle.marks.specs.Calls.{Outcome, outcome, runCall, nextCall, Values, valuesOf}
-use Rattle.marks.specs.CallLaws.{run-given-by, run-refuses-by, answered-is}
+use Rattle.marks.specs.CallLaws.{run-given-by, run-refuses-by, run-plain, answered-is}
 use Rattle.marks_c.specs.declared.Marked.{Marked}
 use Rattle.marks_c.specs.Calls.{Listed, listed, listAnswer, markedCall, handedNext}
 
@@ -25,7 +25,7 @@ module _ (s : Registers) (m q marks list : List ℕ) where
 
   -- ---- the two ways out, by what the code has
 
-  pub marked-excluded : lawful s ≡ false → listed (record { state = s; number = 1; place = 0 }) m q marks ≡ markedCall s m q marks list
+  pub marked-excluded : lawful s ≡ false → listed (excludedRan s) m q marks ≡ markedCall s m q marks list
   unfolding markedCall
   marked-excluded h = taking-excluded below _ s h
 
@@ -52,13 +52,20 @@ module _ (s : Registers) (m q marks list : List ℕ) where
       done : lawful s ≡ true → below (taken s) .answer .number ≢ 0 → below (taken s) ≡ back (below (taken s)) s
       done e n =
           let o = runCall list given marks in
-          ap (λ (x : Outcome). listed (record { state = handed (x .after .state); number = o .given .number; place = o .given .place }) (x .after .memory) (x .after .serial) (x .marks))
+          ap (λ (x : Outcome). listed (handedAnswer (o .given) (x .after .state)) (x .after .memory) (x .after .serial) (x .marks))
           (run-refuses-by effect list given marks (λ z. n (ap (λ v. v .number) (run-given-by effect list given marks) ∙ z)))
           ∙ ap (back (below (taken s))) (handed-taken s e)
 
+-- no marked run, accepted or refused, makes a mask persistent that was not
+pub marked-plain : (s : Registers) → s .persistent ≡ 0 → (m q marks list : List ℕ) → markedCall s m q marks list .answer .state .persistent ≡ 0
+unfolding markedCall
+marked-plain s e m q marks list =
+    taking-plain (below s m q marks list) _ (λ (o : Listed). o .answer .state) s e
+    (λ v h. handed-plain (runCall list (board v m q) marks .after .state) (run-plain list (board v m q) marks h)) e
+
 -- a stored length that is not one of the four is 1
 pub other-length-marked : (s : Registers) → partitionOk (s .stop) ≡ false → (m q marks list : List ℕ)
-    → markedCall s m q marks list ≡ listed (record { state = s; number = 1; place = 0 }) m q marks
+    → markedCall s m q marks list ≡ listed (excludedRan s) m q marks
 other-length-marked s h m q marks list = sym (marked-excluded s m q marks list (other-length s h))
 
 -- a call on a state that was handed to C is the call below, so a session in C is the session below

@@ -4,7 +4,7 @@ use mathlib.Core.List.{List}
 use Rattle.vram.specs.Board.{board}
 use Rattle.registers.specs.declared.Registers.{Registers}
 use Rattle.registers.specs.declared.Ran.{Ran}
-use Rattle.registers.specs.State.{handed, taking}
+use Rattle.registers.specs.State.{taking, handedAnswer, excludedRan}
 use Rattle.marks.specs.declared.Marked.{Marked as Below}
 use Rattle.marks.specs.Calls.{Outcome, runCall, answered}
 use Rattle.marks_c.specs.declared.Marked.{Marked}
@@ -22,11 +22,11 @@ listed r m q marks = record { answer = r; memory = m; serial = q; marks = marks 
 
 abbrev pub listAnswer : Outcome → Listed
 listAnswer o =
-    listed (record { state = handed (o .after .state); number = o .given .number; place = o .given .place }) (o .after .memory) (o .after .serial) (o .marks)
+    listed (handedAnswer (o .given) (o .after .state)) (o .after .memory) (o .after .serial) (o .marks)
 
 unfoldable pub markedCall : Registers → List ℕ → List ℕ → List ℕ → List ℕ → Listed
 markedCall s m q marks list =
-    taking s (λ v. listAnswer (runCall list (board v m q) marks)) (listed (record { state = s; number = 1; place = 0 }) m q marks)
+    taking s (λ v. listAnswer (runCall list (board v m q) marks)) (listed (excludedRan s) m q marks)
 
 -- ---- the next marked row: its number and values
 

@@ -4,3 +4,9 @@
 pub mod Calls
 -- of the same
 pub mod CallLaws
+-- C's marked runs one after the other, and a link in C
+pub mod Runs
+-- they are those of `marks`
+pub mod RunLaws
+-- what a link in C relies on
+pub mod Link

@@ -8,7 +8,9 @@ use Rattle.vram.specs.declared.Vram.{Vram}
 use Rattle.vram.specs.declared.Waiting.{Waiting}
 use Rattle.vram.specs.declared.Waiting.the-variants.{None, Tap}
 use Rattle.vram.specs.State.{stopLength, stopOf}
+use Rattle.list.specs.declared.Bad.{Bad}
 use Rattle.list.specs.declared.Ran.{Ran as ListRan}
+use Rattle.list.specs.Meaning.{bad}
 use Rattle.registers.specs.declared.Registers.{Registers}
 use Rattle.registers.specs.declared.Ran.{Ran}
 
@@ -57,6 +59,12 @@ handed v = handedBy (v .waiting) v
 abbrev pub taking : {A : Type 0} → Registers → (Vram → A) → A → A
 taking s made excluded = cond (lawful s) (made (taken s)) excluded
 
--- the answer to a list, with the state handed back
+-- the answer to a list: number, place and the state handed back; where no `Vram` can be so, 1 and the state as it came
+abbrev pub handedAnswer : Bad → Vram → Ran
+handedAnswer v s = record { state = handed s; number = v .number; place = v .place }
+
 abbrev pub handedRan : ListRan → Ran
-handedRan r = record { state = handed (r .state); number = r .number; place = r .place }
+handedRan r = handedAnswer (bad (r .number) (r .place)) (r .state)
+
+abbrev pub excludedRan : Registers → Ran
+excludedRan s = record { state = s; number = 1; place = 0 }

@@ -2,10 +2,10 @@
 -- state it was. Assumes nothing.
 use Prim.Native.Nat.{ℕ, _≤_}
 use mathlib.Core.Path.{_≡_, refl, sym, ap, ap₂, _∙_}
-use mathlib.Core.Bool.{Bool, true, false, not, _&&_, _||_, cond}
+use mathlib.Core.Bool.{Bool, true, false, not, _&&_, _||_, cond, and-false}
 use native.Mathlib.Omega.{arith}
 use lib.Dec.{eqb, leb}
-use borrow.Author.Tests.{eqb-true, eqb-false, leb-true}
+use borrow.Author.Tests.{eq-eqb, eqb-true, eqb-false, leb-true}
 use Rattle.numbers.specs.Between.{both}
 use Rattle.words.specs.Bit.{digit}
 use Rattle.words.specs.BitLaws.{yes-or-no, digit-yes, digit-small}
@@ -101,11 +101,27 @@ module _ {A : Type 0} (made : Vram → A) (excluded : A) where
       go true e = f e
       go false e = g
 
--- ---- a stored length that is not one of the four is no `Vram`'s
+-- ---- persistence: a state that is not persistent is handed to C with 0, and taken from 0
 
-and-false : (p : Bool) → (p && false) ≡ false
-and-false true = refl
-and-false false = refl
+pub handed-plain : (v : Vram) → v .persistent ≡ false → handed v .persistent ≡ 0
+unfolding handed
+handed-plain v e = go (v .waiting) ∙ ap digit e
+  where
+    go : (w : Waiting) → handedBy w v .persistent ≡ digit (v .persistent)
+    go None = refl
+    go (Tap tap) = refl
+
+taken-plain : (s : Registers) → s .persistent ≡ 0 → taken s .persistent ≡ false
+unfolding taken
+taken-plain s e = rw (eq-eqb (s .persistent) 0 e)
+
+-- so a call makes no 1 of 0 that makes no mask persistent below, and where no `Vram` can be so hands the state back
+pub taking-plain : {A : Type 0} (made : Vram → A) (excluded : A) (state : A → Registers) (s : Registers) → s .persistent ≡ 0
+    → ((v : Vram) → v .persistent ≡ false → state (made v) .persistent ≡ 0) → state excluded .persistent ≡ 0
+    → state (taking s made excluded) .persistent ≡ 0
+taking-plain made excluded state s e f g = taking-either made excluded (λ x. state x .persistent ≡ 0) s (λ h. f (taken s) (taken-plain s e)) g
+
+-- ---- a stored length that is not one of the four is no `Vram`'s
 
 pub other-length : (s : Registers) → partitionOk (s .stop) ≡ false → lawful s ≡ false
 unfolding lawful

@@ -1,6 +1,6 @@
 -- What the code computes of words is what the definitions say. Assumes nothing.
 use mathlib.Core.Path.{_≡_, refl, sym, ap, ap₂, _∙_, subst}
-use mathlib.Core.Bool.{Bool, true, false, not, _&&_, _||_, cond}
+use mathlib.Core.Bool.{Bool, true, false, not, _&&_, _||_, cond, or-false}
 use Prim.Native.Nat.{ℕ, zero, suc, _+_, _-_, _*_, _/_, _%_, _^_, _<_}
 use native.Mathlib.Nat.{mod-lt, lt-of-le-of-lt, add-comm}
 use native.Mathlib.Omega.{arith}
@@ -67,10 +67,6 @@ copies columns j b =
 
 spread-bit : (columns j b : ℕ) → b < 16 → bit (spread (firsts columns j)) b ≡ copies columns j b
 spread-bit columns j b h = simp (bit-or, bit-shl, bit-and, bit-shr)
-
-pub or-false : (p : Bool) → (p || false) ≡ p
-or-false true = refl
-or-false false = refl
 
 or-false² : (p : Bool) → ((p || false) || false) ≡ p
 or-false² p = or-false (p || false) ∙ or-false p

@@ -21,14 +21,7 @@ returns c =
     let a = k .before .before .args in
     none-out (a .marks .now) (a .start) (k .length-number .result) (l .refuse .result) (n .refuse2 .result) (k .length-number .ensures) (l .refuse .ensures) (n .refuse2 .ensures) (c .if1 .taken)
 
-first-from-requires : tie.Need-first-from-requires
-first-from-requires c κs =
-    let n = c .before in
-    let l = n .before in
-    let k = l .before in
-    let a = k .before .before .args in
-    search-fits (a .marks .now) (a .start) (k .length-number .result) (l .refuse .result) (n .refuse2 .result) (k .length-number .ensures) (l .refuse .ensures) (n .refuse2 .ensures) (c .if1 .left)
-
+-- what is answered, before the bounds of the search: an edit's first error is then the answer
 returns-2 : tie.Need-returns-2
 returns-2 c =
     let n = c .before .before in
@@ -37,6 +30,14 @@ returns-2 c =
     let a = k .before .before .args in
     found-out (a .marks .now) (a .start) (k .length-number .result) (l .refuse .result) (n .refuse2 .result) (k .length-number .ensures) (l .refuse .ensures) (n .refuse2 .ensures)
     (c .before .if1 .left) (c .first-from .result) (c .first-from .ensures)
+
+first-from-requires : tie.Need-first-from-requires
+first-from-requires c κs =
+    let n = c .before in
+    let l = n .before in
+    let k = l .before in
+    let a = k .before .before .args in
+    search-fits (a .marks .now) (a .start) (k .length-number .result) (l .refuse .result) (n .refuse2 .result) (k .length-number .ensures) (l .refuse .ensures) (n .refuse2 .ensures) (c .if1 .left)
 
 pub next-spec : {M : Type 1} → statement M
 next-spec =

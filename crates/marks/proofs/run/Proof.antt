@@ -35,7 +35,7 @@ same-length-2 c = search needs
 
 returns-2 : tie.Need-returns-2
 returns-2 c =
-    let p = c .before .before .before .before .before .before in
+    let p = c .before .before .before .before .before in
     let e = p .before .before .before in
     let r = e .before in
     let l = r .before in
@@ -47,7 +47,7 @@ returns-2 c =
 mark-writes-requires : tie.Need-mark-writes-requires
 mark-writes-requires c κs =
     let t = c .before in
-    let p = t .before .before .before .before .before .before in
+    let p = t .before .before .before .before .before in
     let e = p .before .before .before in
     let r = e .before in
     let l = r .before in
@@ -69,7 +69,7 @@ returns-3 : tie.Need-returns-3
 returns-3 c =
     let m = c .before .before in
     let t = m .before .before in
-    let p = t .before .before .before .before .before .before in
+    let p = t .before .before .before .before .before in
     let e = p .before .before .before in
     let r = e .before in
     let l = r .before in
