@@ -46,6 +46,7 @@ module _ (n : ℕ) (m : n ≤ 512) (memory : List ℕ) (l : length memory ≡ 51
       go true f = absurd (omega (arith, sym z ∙ visits q y ∙ ap digit f))
       go false f = sym (unmarked-holds memory marks e rs q y f)
 
+  -- the copy, with the visited rows sent, is the memory
   pub link-whole : sentRows (memorySince memory marks rs) visitedSince memory ≡ memorySince memory marks rs
   link-whole =
       let s = all-memory-length rs (since memory marks) in
