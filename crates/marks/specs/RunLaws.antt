@@ -23,7 +23,7 @@ use Rattle.marks.specs.Marks.{isMarked, markedByAll, namedIn}
 use Rattle.marks.specs.MarkLaws.{all-marks, all-append}
 use Rattle.marks.specs.Calls.{Outcome, verdictOf}
 use Rattle.marks.specs.CallLaws.{verdict-zero, run-given-by, run-refuses-by, run-runs-by}
-use Rattle.marks.specs.Runs.{Run, Drawn, drawn, boardOf, callOf, ran, after, ranAll, afterAll}
+use Rattle.marks.specs.Runs.{Run, Drawn, drawn, boardOf, callOf, ran, after, inOrder, afterAll, ranAll}
 
 -- ---- cycles and rows
 
@@ -87,22 +87,23 @@ module _ (r : Run) (d : Drawn) where
 
 -- ---- any number of runs
 
-pub all-none : (d : Drawn) → afterAll [] d ≡ d
-unfolding afterAll
-all-none d = refl
+module _ {R : Type 0} (step : R → Drawn → Drawn) where
+  pub order-none : (d : Drawn) → inOrder step [] d ≡ d
+  unfolding inOrder
+  order-none d = refl
 
-pub all-next : (r : Run) (rs : List Run) (d : Drawn) → afterAll (r ∷ rs) d ≡ afterAll rs (after r d)
-unfolding afterAll
-all-next r rs d = refl
+  pub order-next : (r : R) (rs : List R) (d : Drawn) → inOrder step (r ∷ rs) d ≡ inOrder step rs (step r d)
+  unfolding inOrder
+  order-next r rs d = refl
 
 pub all-memory-length : (rs : List Run) (d : Drawn) → length (afterAll rs d .memory) ≡ length (d .memory)
-unfolding afterAll
+unfolding inOrder
 all-memory-length [] d = refl
 all-memory-length (r ∷ rs) d = all-memory-length rs (after r d) ∙ after-memory-length r d
 
 -- the marks are those of all cycles that have run
 pub all-marked : (rs : List Run) (d : Drawn) → afterAll rs d .marks ≡ markedByAll (ranAll rs d) (d .marks)
-unfolding afterAll ranAll markedByAll
+unfolding inOrder ranAll markedByAll
 all-marked [] d = refl
 all-marked (r ∷ rs) d =
     all-marked rs (after r d)
@@ -116,7 +117,7 @@ runs-mark rs d q h = ap (λ (m : List ℕ). isMarked m q) (all-marked rs d) ∙ 
 
 -- a row that no write names that has run holds the words that it held
 pub runs-row : (rs : List Run) (d : Drawn) (q : ℕ) → namedIn q (ranAll rs d) ≡ false → rowOf q (afterAll rs d .memory) ≡ rowOf q (d .memory)
-unfolding afterAll ranAll
+unfolding inOrder ranAll
 runs-row [] d q h = refl
 runs-row (r ∷ rs) d q h =
     let n = neither (namedIn q (ran r d)) (namedIn q (ranAll rs (after r d))) (sym (named-append q (ran r d) (ranAll rs (after r d))) ∙ h) in

@@ -39,13 +39,17 @@ after r d = drawn (callOf r d .after .memory) (callOf r d .marks)
 
 -- ---- runs in order
 
+-- of any kind, each on what the one before left
+unfoldable pub inOrder : {R : Type 0} → (R → Drawn → Drawn) → List R → Drawn → Drawn
+inOrder step [] d = d
+inOrder step (r ∷ rs) d = inOrder step rs (step r d)
+
+abbrev pub afterAll : List Run → Drawn → Drawn
+afterAll = inOrder after
+
 unfoldable pub ranAll : List Run → Drawn → List Cycle
 ranAll [] d = []
 ranAll (r ∷ rs) d = ran r d ++ ranAll rs (after r d)
-
-unfoldable pub afterAll : List Run → Drawn → Drawn
-afterAll [] d = d
-afterAll (r ∷ rs) d = afterAll rs (after r d)
 
 -- ---- since a clearing
 

@@ -15,10 +15,14 @@ abbrev pub goesOn : Found → (ℕ → List ℕ) → List ℕ
 goesOn None from = []
 goesOn (Row r) from = r ∷ from (suc r)
 
--- the loop: k calls of `next` at most, the first from a start row. After row 511 it asks for row 512, which is refused: none is found
-unfoldable pub visited : List ℕ → ℕ → ℕ → List ℕ
-visited marks zero start = []
-visited marks (suc k) start = goesOn (nextCall marks start .found) (visited marks k)
+-- the loop, by any search: k calls at most, the first from a start row
+unfoldable pub visitedBy : (ℕ → Found) → ℕ → ℕ → List ℕ
+visitedBy search zero start = []
+visitedBy search (suc k) start = goesOn (search start) (visitedBy search k)
+
+-- by `next`: after row 511 it asks for row 512, which is refused, and none is found
+abbrev pub visited : List ℕ → ℕ → ℕ → List ℕ
+visited marks = visitedBy (λ start. nextCall marks start .found)
 
 -- the marked ones of n rows from r on, in order
 unfoldable pub markedRows : List ℕ → ℕ → ℕ → List ℕ

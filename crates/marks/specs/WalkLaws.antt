@@ -1,7 +1,7 @@
 -- Laws of a walk from marked row to marked row. Assumes nothing.
 use mathlib.Core.Path.{_≡_, refl, sym, ap, _∙_}
 use mathlib.Core.Bool.{Bool, true, false, cond}
-use mathlib.Core.List.{List, [], _∷_}
+use mathlib.Core.List.{List, _∷_}
 use mathlib.Core.Logic.{_≢_}
 use Prim.Native.Nat.{ℕ, zero, suc, _+_, _-_, _≤_, _<_}
 use native.Mathlib.Omega.{arith}
@@ -18,21 +18,19 @@ use Rattle.marks.specs.Marks.{isMarked, firstMarked, Least}
 use Rattle.marks.specs.NextLaws.{first-least}
 use Rattle.marks.specs.Calls.{nextCall}
 use Rattle.marks.specs.CallLaws.{next-5, next-finds}
-use Rattle.marks.specs.Walk.{goesOn, visited, markedRows, howOften}
+use Rattle.marks.specs.Walk.{goesOn, visitedBy, visited, markedRows, howOften}
+
+-- two searches that find the same visit the same rows
+pub visited-same : (f g : ℕ → Found) → ((s : ℕ) → f s ≡ g s) → (k start : ℕ) → visitedBy f k start ≡ visitedBy g k start
+unfolding visitedBy
+visited-same f g h zero start = refl
+visited-same f g h (suc k) start = ap (λ (x : Found). goesOn x (visitedBy f k)) (h start) ∙ case (g start) (visited-same f g h k)
+  where
+    case : (x : Found) → ((s : ℕ) → visitedBy f k s ≡ visitedBy g k s) → goesOn x (visitedBy f k) ≡ goesOn x (visitedBy g k)
+    case None ih = refl
+    case (Row r) ih = ap (λ (rows : List ℕ). r ∷ rows) (ih (suc r))
 
 module _ (marks : List ℕ) where
-  -- ---- call by call
-
-  pub visited-none : (start : ℕ) → visited marks 0 start ≡ []
-  unfolding visited
-  visited-none start = refl
-
-  pub visited-next : (k start : ℕ) → visited marks (suc k) start ≡ goesOn (nextCall marks start .found) (visited marks k)
-  unfolding visited
-  visited-next k start = refl
-
-  -- ---- row by row
-
   -- the marked rows are the first and those after it
   rows-first : (n r : ℕ) → markedRows marks r n ≡ goesOn (firstMarked marks r n) (λ s. markedRows marks s (r + n - s))
   unfolding markedRows firstMarked
@@ -50,7 +48,7 @@ module _ (marks : List ℕ) where
   module _ (h : length marks ≡ 64) where
     -- the loop visits the marked rows in order, with any number of calls that would do for every row
     pub visits-rows : (k start : ℕ) → start ≤ 512 → 512 - start ≤ k → visited marks k start ≡ markedRows marks start (512 - start)
-    unfolding visited markedRows
+    unfolding visitedBy markedRows
     visits-rows zero start l m = let e : 512 - start ≡ 0 = omega arith in rw e
     visits-rows (suc k) start l m = go (visits-rows k)
       where
