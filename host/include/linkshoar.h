@@ -395,7 +395,7 @@ static inline size_t linkshoar_put_rectangle(uint8_t *at, uint16_t first_row, ui
  * without a word or block write may be run by linkshoar_list_run as well; clocks and panel runs draw nothing.
  *
  * The link copies the memory once and clears the marks, which clears bytes of any content; then, after any number of lists, this brings its
- * copy up to date, with no list run between the first line and the last:
+ * copy up to date, where nothing is drawn between the first line and the last (lists that only transfer rows may run there):
  *
  *   linkshoar_marked m = linkshoar_marks_next(marks, LINKSHOAR_MARKS_BYTES, 0);
  *   for (; m.found; m = linkshoar_marks_next(marks, LINKSHOAR_MARKS_BYTES, m.row + 1))
