@@ -1,4 +1,4 @@
--- Laws of the calls: the two ways out of each; a refusal hands the state back as it came and changes nothing lent; another length than the
+-- Laws of the clock and the runs to the panel: the two ways out of each; a refusal hands the state back as it came and changes nothing lent; another length than the
 -- four is refused; none makes a mask persistent. Assumes nothing.
 use Prim.Native.Nat.{ℕ}
 use mathlib.Core.Path.{_≡_, refl, sym, ap, _∙_}
@@ -7,34 +7,24 @@ use mathlib.Core.List.{List}
 use mathlib.Core.Logic.{_≢_}
 use Rattle.refusals.specs.Refusal.{partitionOk}
 use Rattle.vram.specs.declared.Vram.{Vram}
-use Rattle.vram.specs.Board.{Board, board}
 use Rattle.vram.specs.declared.Clocked.{Clocked as VramClocked}
 use Rattle.vram.specs.declared.Answered.{Answered}
 use Rattle.vram.specs.Calls.{clockCall as vramClock}
 use Rattle.vram.specs.CallLaws.{clock-refuses, clock-persistent}
 use Rattle.palette.specs.declared.Palette.{Palette}
-use Rattle.list.specs.declared.Ran.{Ran as ListRan}
-use Rattle.list.specs.Meaning.{Outcome as ListOutcome, outcome, runCall}
-use Rattle.list.specs.CallLaws.{call-given, call-refuses}
-use Rattle.list.specs.PersistLaws.{call-plain}
 use Rattle.panel.specs.Calls.{Outcome as PanelOutcome, outcome as panelOutcome, runCallBy as panelRunBy}
 use Rattle.panel.specs.CallLaws.{run-number, run-refuses, run-persistent}
 use Rattle.panel.specs.WidthLaws.{same-answer}
 use Rattle.registers.specs.declared.Registers.{Registers}
-use Rattle.registers.specs.declared.Ran.{Ran}
-use Rattle.registers.specs.State.{lawful, taken, handed, handedRan, excludedRan}
+use Rattle.registers.specs.State.{lawful, taken, handed}
 use Rattle.registers.specs.StateLaws.{handed-taken, taking-excluded, taking-done, taking-handed, taking-either, handed-plain, taking-plain, other-length}
 use Rattle.host.specs.declared.Clocked.{Clocked}
-use Rattle.host.specs.Calls.{Listed, listed, listAnswer, listCall, clockAnswer, clockCall, ShownTo, shown, panelAnswer, panelCallBy}
+use Rattle.host.specs.Calls.{clockAnswer, clockCall, ShownTo, shown, panelAnswer, panelCallBy}
 
 -- ---- the two ways out of each call, by what the code has
 
 module _ (s : Registers) where
   module _ (h : lawful s ≡ false) where
-    pub list-excluded : (m q list : List ℕ) → listed (excludedRan s) m q ≡ listCall s m q list
-    unfolding listCall
-    list-excluded m q list = taking-excluded (λ v. listAnswer (runCall list (board v m q))) _ s h
-
     pub clock-excluded : (r : List ℕ) → record { state = s; word = 0; number = 1 } ≡ clockCall s r
     unfolding clockCall
     clock-excluded r = taking-excluded (λ v. clockAnswer (vramClock v r)) _ s h
@@ -45,12 +35,6 @@ module _ (s : Registers) where
     panel-excluded parts r p t clocks blank out = taking-excluded (λ v. panelAnswer (panelRunBy parts v r p t clocks blank out)) _ s h
 
   module _ (h : lawful s ≡ true) (v : Vram) (e : v ≡ taken s) where
-    pub list-done : (m q list : List ℕ) (ran : ListRan) (m′ q′ : List ℕ) → outcome ran m′ q′ ≡ runCall list (board v m q)
-        → (answer : Ran) → answer ≡ handedRan ran → listed answer m′ q′ ≡ listCall s m q list
-    unfolding listCall
-    list-done m q list ran m′ q′ f answer g =
-        taking-done (λ x. listAnswer (runCall list (board x m q))) _ s h v e (listed answer m′ q′) (ap (λ (a : Ran). listed a m′ q′) g ∙ ap listAnswer f)
-
     pub clock-done : (r : List ℕ) (c : VramClocked) → c ≡ vramClock v r → (given : Registers) → given ≡ handed (c .state)
         → record { state = given; word = c .word; number = c .number } ≡ clockCall s r
     unfolding clockCall
@@ -71,27 +55,6 @@ module _ (s : Registers) where
 -- ---- a refusal hands the state back as it came, also where no `Vram` can be so, and changes nothing lent
 
 module _ (s : Registers) where
-  pub list-refused : (m q list : List ℕ) → let o = listCall s m q list in o .answer .number ≢ 0
-      → o ≡ listed (record { state = s; number = o .answer .number; place = o .answer .place }) m q
-  unfolding listCall
-  list-refused m q list =
-      taking-either (λ v. listAnswer (runCall list (board v m q))) _ (λ (o : Listed). o .answer .number ≢ 0 → o ≡ back o s m q) s done (λ n. refl)
-    where
-      given : Board
-      given = board (taken s) m q
-
-      ran : ListOutcome
-      ran = runCall list given
-
-      back : Listed → Registers → List ℕ → List ℕ → Listed
-      back o t m′ q′ = listed (record { state = t; number = o .answer .number; place = o .answer .place }) m′ q′
-
-      done : lawful s ≡ true → ran .given .number ≢ 0 → listAnswer ran ≡ back (listAnswer ran) s m q
-      done e n =
-          ap (λ (b : Board). back (listAnswer ran) (handed (b .state)) (b .memory) (b .serial))
-          (call-refuses list given (λ z. n (ap (λ v. v .number) (call-given list given) ∙ z)))
-          ∙ ap (λ (t : Registers). back (listAnswer ran) t m q) (handed-taken s e)
-
   pub clock-refused : (r : List ℕ) → let o = clockCall s r in o .number ≢ 0 → o ≡ record { state = s; word = 0; number = o .number }
   unfolding clockCall
   clock-refused r =
@@ -129,9 +92,6 @@ module _ (s : Registers) where
 -- ---- a stored length that is not one of the four is 1, in each of these calls
 
 module _ (s : Registers) (h : partitionOk (s .stop) ≡ false) where
-  pub other-length-list : (m q list : List ℕ) → listCall s m q list ≡ listed (excludedRan s) m q
-  other-length-list m q list = sym (list-excluded s (other-length s h) m q list)
-
   pub other-length-clock : (r : List ℕ) → clockCall s r ≡ record { state = s; word = 0; number = 1 }
   other-length-clock r = sym (clock-excluded s (other-length s h) r)
 
@@ -142,12 +102,6 @@ module _ (s : Registers) (h : partitionOk (s .stop) ≡ false) where
 -- ---- no call, accepted or refused, makes a mask persistent that was not
 
 module _ (s : Registers) (e : s .persistent ≡ 0) where
-  pub list-plain : (m q list : List ℕ) → listCall s m q list .answer .state .persistent ≡ 0
-  unfolding listCall
-  list-plain m q list =
-      taking-plain (λ v. listAnswer (runCall list (board v m q))) _ (λ (o : Listed). o .answer .state) s e
-      (λ v h. handed-plain (runCall list (board v m q) .after .state) (call-plain list (board v m q) h)) e
-
   pub clock-plain : (r : List ℕ) → clockCall s r .state .persistent ≡ 0
   unfolding clockCall
   clock-plain r =
@@ -181,10 +135,6 @@ panel-same parts others s r p t clocks blank out = go (lawful s)
 -- ---- a call on a state that was handed to C is the call below, so a session in C is the session below
 
 module _ (v : Vram) where
-  pub list-handed : (m q list : List ℕ) → listCall (handed v) m q list ≡ listAnswer (runCall list (board v m q))
-  unfolding listCall
-  list-handed m q list = taking-handed (λ x. listAnswer (runCall list (board x m q))) _ v
-
   pub clock-handed : (r : List ℕ) → clockCall (handed v) r ≡ clockAnswer (vramClock v r)
   unfolding clockCall
   clock-handed r = taking-handed (λ x. clockAnswer (vramClock x r)) _ v

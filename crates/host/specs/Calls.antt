@@ -2,36 +2,23 @@
 -- answers, with the state handed back. Assumes nothing.
 use Prim.Native.Nat.{ℕ}
 use mathlib.Core.List.{List}
-use Rattle.vram.specs.Board.{board}
+use Rattle.vram.specs.Board.{effect}
 use Rattle.vram.specs.declared.Clocked.{Clocked as VramClocked}
 use Rattle.vram.specs.Calls.{clockCall as vramClock}
 use Rattle.palette.specs.declared.Palette.{Palette}
-use Rattle.list.specs.Meaning.{Outcome, runCall}
 use Rattle.panel.specs.Panel.{widened, unwidened}
 use Rattle.panel.specs.Calls.{Outcome as PanelOutcome, runCallBy as panelRunBy}
 use Rattle.registers.specs.declared.Registers.{Registers}
-use Rattle.registers.specs.declared.Ran.{Ran}
-use Rattle.registers.specs.State.{handed, taking, handedAnswer, excludedRan}
+use Rattle.registers.specs.State.{handed, taking}
+use Rattle.registers.specs.Lists.{Listed, listCallBy}
 use Rattle.host.specs.declared.Shown.{Shown}
 use Rattle.host.specs.declared.Clocked.{Clocked}
 
 -- ---- a list
 
-pub record Listed : Type 0 where
-  pub answer : Ran
-  pub memory : List ℕ
-  pub serial : List ℕ
-
-abbrev pub listed : Ran → List ℕ → List ℕ → Listed
-listed r m q = record { answer = r; memory = m; serial = q }
-
-abbrev pub listAnswer : Outcome → Listed
-listAnswer o =
-    listed (handedAnswer (o .given) (o .after .state)) (o .after .memory) (o .after .serial)
-
-unfoldable pub listCall : Registers → List ℕ → List ℕ → List ℕ → Listed
-listCall s m q list =
-    taking s (λ v. listAnswer (runCall list (board v m q))) (listed (excludedRan s) m q)
+-- by the engine of the rules
+abbrev pub listCall : Registers → List ℕ → List ℕ → List ℕ → Listed
+listCall = listCallBy effect
 
 -- ---- a serial clock
 

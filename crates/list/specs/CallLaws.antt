@@ -1,17 +1,22 @@
 -- Laws of the call: what it gives back, step by step, and what it leaves. Assumes nothing.
-use mathlib.Core.Path.{_≡_, refl, ap, _∙_}
+use mathlib.Core.Path.{_≡_, refl, sym, ap, ap₂, _∙_}
 use mathlib.Core.Bool.{Bool, true}
 use mathlib.Core.List.{List, [], _∷_}
 use mathlib.Core.Logic.{_≢_}
 use Prim.Native.Nat.{ℕ, _+_}
 use native.Mathlib.Omega.{arith}
+use Rattle.numbers.specs.Refuse.{leaves}
 use Rattle.numbers.specs.RefuseLaws.{leaves-made, leaves-before}
+use Rattle.vram.specs.declared.Cycle.{Cycle}
 use Rattle.vram.specs.Board.{Board, effect}
 use Rattle.vram.specs.Step.{givenOf, rowsOf, Engine, stepBy, runBy, run}
+use Rattle.vram.specs.StepLaws.{steps-same, runs-same}
+use Rattle.list.specs.declared.Bad.{Bad}
+use Rattle.list.specs.declared.Open.{Open}
 use Rattle.list.specs.declared.Open.the-variants.{None}
 use Rattle.list.specs.Fields.{Field, Reads, Unreadable, sizeOf, fields}
-use Rattle.list.specs.Open.{openOf}
-use Rattle.list.specs.Meaning.{numberOf, madeBy, bad, verdict, readable, cyclesOf, leftBehind, judged, verdictOf, runCallBy, runCall}
+use Rattle.list.specs.Open.{openAfter, openOf}
+use Rattle.list.specs.Meaning.{numberOf, madeBy, bad, verdict, readable, cyclesOf, leftBehind, judged, verdictOf, gives, runCallBy, runCall}
 use Rattle.list.specs.VerdictLaws.{accepted-head, accepted-tail}
 use Rattle.list.specs.JudgeLaws.{bad-first, bad-later, bad-zero, left-none, left-zero, judged-refused, judged-passed}
 
@@ -23,6 +28,11 @@ accepted-readable rows made at [] h = refl
 accepted-readable rows made at (Reads c n ∷ fs) h =
     accepted-readable rows (madeBy (Reads c n) made) (at + sizeOf (Reads c n)) fs (accepted-tail rows made at (Reads c n) fs h)
 accepted-readable rows made at (Unreadable ∷ fs) h = absurd (omega (arith, accepted-head rows made at Unreadable fs h))
+
+pub judged-readable : (rows : ℕ) (made : Bool) (left : Open) (at : ℕ) (fs : List Field) → judged rows made left at fs .number ≡ 0 → readable fs ≡ true
+unfolding judged
+judged-readable rows made left at fs h =
+    accepted-readable rows made at fs (bad-zero (verdict rows made at fs) (leftBehind (openAfter at fs left)) h .0)
 
 -- ---- the verdict, step by step
 
@@ -86,6 +96,25 @@ module _ (e : Engine) (list : List ℕ) (b : Board) where
   pub call-refuses-by : verdictOf list b .number ≢ 0 → runCallBy e list b .after ≡ b
   unfolding runCallBy
   call-refuses-by h = leaves-before (verdictOf list b .number) b (runBy (stepBy e) (cyclesOf list) b) h
+
+  -- where the engine runs the list itself: 1 to 3, and else the list's own verdict and the run
+  pub call-first-by : givenOf b ≢ 0 → runCallBy e list b ≡ gives (bad (givenOf b) 0) b
+  unfolding runCallBy
+  call-first-by h =
+      let v = verdict-given list b h in
+      ap₂ gives v (call-refuses-by (λ z. h (sym (ap (λ (w : Bad). w .number) v) ∙ z)))
+
+  pub call-checked-by : givenOf b ≡ 0
+      → (let v = judged (rowsOf b) (b .state .loaded) None 0 (fields list) in
+      runCallBy e list b ≡ gives v (leaves (v .number) b (runBy (stepBy e) (cyclesOf list) b)))
+  unfolding runCallBy
+  call-checked-by g = ap (λ (v : Bad). gives v (leaves (v .number) b (runBy (stepBy e) (cyclesOf list) b))) (verdict-judged list b g)
+
+-- two engines that do the same give the same answers and leave the same
+pub calls-same : {e f : Engine} → ((c : Cycle) (b : Board) → e c b ≡ f c b) → (list : List ℕ) (b : Board) → runCallBy e list b ≡ runCallBy f list b
+unfolding runCallBy
+calls-same h list b =
+    ap (λ (x : Board). gives (verdictOf list b) (leaves (verdictOf list b .number) b x)) (runs-same (steps-same h) (cyclesOf list) b)
 
 -- ---- and by the engine of the rules
 

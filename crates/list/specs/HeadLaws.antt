@@ -1,18 +1,19 @@
 -- Laws of the field at the head of some bytes: how a list is walked by it. Assumes nothing.
-use mathlib.Core.Path.{_≡_, refl, sym, ap, _∙_}
+use mathlib.Core.Path.{_≡_, refl, sym, ap, _∙_, subst}
 use mathlib.Core.Bool.{Bool, true, false}
-use mathlib.Core.List.{List, _∷_}
+use mathlib.Core.List.{List, [], _∷_}
 use Prim.Native.Nat.{ℕ, _+_, _≤_, _<_}
 use native.Mathlib.Omega.{arith}
 use lib.ListN.{length, drop}
 use Rattle.vram.specs.declared.Cycle.{Cycle}
+use Rattle.list.specs.declared.Head.{Head}
 use Rattle.list.specs.declared.Head.the-variants.{Waits, Wrong, Whole}
 use Rattle.list.specs.Tags.{lenOf, cycleOf}
 use Rattle.list.specs.TagLaws.{len-most}
 use Rattle.list.specs.Fields.{tag, body, whole, fieldOf, fields}
 use Rattle.list.specs.FieldLaws.{whole-length, readable-head, readable-tail}
 use Rattle.list.specs.Meaning.{numberOf, readable, cyclesOf}
-use Rattle.list.specs.VerdictLaws.{number-whole, number-not, cycles-whole}
+use Rattle.list.specs.VerdictLaws.{number-whole, number-not, cycles-whole, cycles-not}
 use Rattle.list.specs.Waits.{waits}
 use Rattle.list.specs.WaitsLaws.{whole-settled, waits-not}
 use Rattle.list.specs.Heads.{headOf, headNumber}
@@ -65,3 +66,19 @@ module _ (s : List ℕ) (p : 0 < length s) (r : readable (fields s) ≡ true) wh
         most = omega (arith, len-most (tag s));
         rest = readable-tail s p r;
       }
+
+-- ---- any bytes are walked by their heads, up to one that is no whole field
+
+-- what a head says of the cycles of the bytes
+abbrev pub Says : List ℕ → Head → Type 0
+Says s Waits = cyclesOf s ≡ []
+Says s Wrong = cyclesOf s ≡ []
+Says s (Whole cycle size) = (cyclesOf s ≡ cycle ∷ cyclesOf (drop size s)) × (0 < size) × (size ≤ length s)
+
+pub head-says : (s : List ℕ) → Says s (headOf s)
+head-says s = go (waits s) refl (whole s) refl
+  where
+    go : (t : Bool) → waits s ≡ t → (u : Bool) → whole s ≡ u → Says s (headOf s)
+    go true h u w = subst (Says s) (sym (head-waits s h)) (cycles-not s (waits-not s h))
+    go false h true w = subst (Says s) (sym (head-whole s w)) (cycles-whole s w, omega arith, whole-length s w)
+    go false h false w = subst (Says s) (sym (head-wrong s h w)) (cycles-not s w)

@@ -5,9 +5,9 @@ use mathlib.Core.List.{List, [], _∷_}
 use mathlib.Core.Logic.{_≢_, _⊎_, inl, inr}
 use Prim.Native.Nat.{ℕ, _+_, _≤_}
 use native.Mathlib.Omega.{arith}
-use lib.Dec.{eqb}
+use lib.Dec.{eqb, ltb}
 use lib.ListN.{length, drop}
-use borrow.Author.Tests.{eq-eqb, ne-eqb, eqb-true}
+use borrow.Author.Tests.{eq-eqb, ne-eqb, eqb-true, ltb-true, ltb-false}
 use Rattle.refusals.specs.Refusal.{refusing}
 use Rattle.vram.specs.Refusal.{refusal}
 use Rattle.list.specs.declared.Bad.{Bad}
@@ -15,7 +15,7 @@ use Rattle.vram.specs.CaseLaws.{refusal-range}
 use Rattle.list.specs.Tags.{lenOf, cycleOf}
 use Rattle.list.specs.TagLaws.{cycle-loads}
 use Rattle.list.specs.Fields.{Field, Reads, Unreadable, tag, body, whole, fieldOf, sizeOf}
-use Rattle.list.specs.FieldLaws.{whole-known, field-whole, field-not, fields-nil, fields-whole}
+use Rattle.list.specs.FieldLaws.{whole-known, field-whole, field-not, fields-nil, fields-whole, fields-not}
 use Rattle.list.specs.Meaning.{numberOf, madeBy, bad, verdict, cycles, cyclesOf}
 
 -- ---- a whole field
@@ -59,6 +59,15 @@ accepted-whole s rows made z = go (whole s) refl
 pub cycles-nil : (s : List ℕ) → length s ≤ 0 → cyclesOf s ≡ []
 unfolding cycles
 cycles-nil s h = rw (fields-nil s h)
+
+-- bytes that begin with no whole field have none
+pub cycles-not : (s : List ℕ) → whole s ≡ false → cyclesOf s ≡ []
+unfolding cycles
+cycles-not s h = go (ltb 0 (length s)) refl
+  where
+    go : (t : Bool) → ltb 0 (length s) ≡ t → cyclesOf s ≡ []
+    go true e = rw (fields-not s (ltb-true 0 (length s) e) h)
+    go false e = cycles-nil s (ltb-false 0 (length s) e)
 
 -- ---- the verdict, field by field
 

@@ -3,6 +3,7 @@ use mathlib.Core.Path.{refl}
 use Rattle.numbers.specs.Determines.{Determines}
 use Rattle.numbers.specs.DeterminesLaws.{by-result, by-outcome}
 use Rattle.marks.proofs.run as run
+use Rattle.marks.proofs.mark_list as mark-list
 use Rattle.marks.proofs.clear as clear
 use Rattle.marks.proofs.next as next
 
@@ -14,6 +15,9 @@ run-once =
       (tt, (o .after .memory, (o .after .serial, (o .marks, (tt, tt))))),
     ))
     (λ κs a x. refl)
+
+pub mark-list-once : Determines mark-list.signature (λ M. mark-list.clauses)
+mark-list-once = by-outcome refl (λ κs a o. (o .given, (tt, (tt, (tt, (o .marks, tt)))))) (λ κs a x. refl)
 
 pub clear-once : Determines clear.signature (λ M. clear.clauses)
 clear-once = by-outcome refl (λ κs a o. (o .number, (o .marks, tt))) (λ κs a x. refl)

@@ -1,6 +1,6 @@
 -- The ways out of each call, by what the code has. Assumes nothing.
 use mathlib.Core.Path.{_≡_, sym, ap, ap₂, _∙_}
-use mathlib.Core.Bool.{true}
+use mathlib.Core.Bool.{Bool, true}
 use mathlib.Core.List.{List}
 use mathlib.Core.Logic.{_≢_}
 use Prim.Native.Nat.{ℕ, _-_, _≤_}
@@ -13,12 +13,14 @@ use Rattle.vram.specs.Board.{Board, effect}
 use Rattle.vram.specs.Step.{givenOf, rowsOf}
 use Rattle.list.specs.declared.Bad.{Bad}
 use Rattle.list.specs.Fields.{fields}
-use Rattle.list.specs.Meaning.{bad, readable, cyclesOf, verdictOf as listVerdict, Outcome as ListOutcome, runCall as listCall}
-use Rattle.list.specs.CallLaws.{accepted-readable, accepted-fields, call-given}
+use Rattle.list.specs.declared.Open.the-variants.{None as Closed}
+use Rattle.list.specs.JudgeLaws.{bad-first, bad-later}
+use Rattle.list.specs.Meaning.{bad, firstBad, judged, readable, cyclesOf, verdictOf as listVerdict, Outcome as ListOutcome, runCall as listCall}
+use Rattle.list.specs.CallLaws.{accepted-readable, judged-readable, accepted-fields, call-given}
 use Rattle.marks.specs.declared.Found.{Found}
 use Rattle.marks.specs.declared.Found.the-variants.{None}
 use Rattle.marks.specs.Marks.{noMarks, markedByAll, firstMarked}
-use Rattle.marks.specs.Calls.{lengthNumber, verdictOf, gives, runCall, cleared, clearCall, nextNumber, answers, nextCall}
+use Rattle.marks.specs.Calls.{lengthNumber, verdictOf, gives, runCall, noted, markCall, cleared, clearCall, nextNumber, answers, nextCall}
 use Rattle.marks.specs.CallLaws.{length-fine, length-zero, length-other, verdict-first, verdict-18, run-refuses-by, run-is, next-zero}
 
 -- ---- a list with marks: g is what 1 to 3 say, k what 18 says, n the first of both
@@ -59,6 +61,39 @@ module _ (list : List ℕ) (b : Board) (marks : List ℕ) (g k n : ℕ) (p : g �
 
     pub done-out : o .given .number ≡ 0 → (left : List ℕ) → left ≡ markedByAll (cyclesOf list) marks → gives (o .given) (o .after) left ≡ runCall list b marks
     done-out h left l = marked-out left (l ∙ sym (leaves-made (o .given .number) marks _ h))
+
+-- ---- a list checked and marked: n is what 18 says
+
+module _ (list : List ℕ) (rows : ℕ) (made : Bool) (marks : List ℕ) where
+  abbrev own : Bad
+  own = judged rows made Closed 0 (fields list)
+
+  abbrev first : Bad
+  first = firstBad (bad (lengthNumber (length marks)) 0) own
+
+  unmarked-out : (v : Bad) → v ≡ first → v .number ≢ 0 → noted v marks ≡ markCall list rows made marks
+  unfolding markCall
+  unmarked-out v p h = ap₂ noted p (sym (leaves-before (first .number) marks _ (λ z. h (ap (λ (w : Bad). w .number) p ∙ z))))
+
+  module _ (n : ℕ) (e : n ≡ lengthNumber (length marks)) where
+    pub length-out : n ≢ 0 → noted (bad n 0) marks ≡ markCall list rows made marks
+    length-out h =
+        unmarked-out (bad n 0) (ap (λ (x : ℕ). bad x 0) e ∙ sym (bad-first (bad (lengthNumber (length marks)) 0) own (λ z. h (e ∙ z)))) h
+
+    module _ (z : n ≡ 0) (v : Bad) (q : v ≡ own) where
+      is-first : v ≡ first
+      is-first = q ∙ sym (bad-later (bad (lengthNumber (length marks)) 0) own (sym e ∙ z))
+
+      pub unchecked-out : v .number ≢ 0 → noted v marks ≡ markCall list rows made marks
+      unchecked-out = unmarked-out v is-first
+
+      module _ (h : v .number ≡ 0) where
+        pub checked-list : readable (fields list) ≡ true
+        checked-list = judged-readable rows made Closed 0 (fields list) (sym (ap (λ (w : Bad). w .number) q) ∙ h)
+
+        pub checked-out : (left : List ℕ) → left ≡ markedByAll (cyclesOf list) marks → noted v left ≡ markCall list rows made marks
+        unfolding markCall
+        checked-out left l = ap₂ noted is-first (l ∙ sym (leaves-made (first .number) marks _ (sym (ap (λ (w : Bad). w .number) is-first) ∙ h)))
 
 -- ---- all marks cleared
 

@@ -10,17 +10,19 @@ use lib.ListN.{length}
 use borrow.Author.Tests.{eq-eqb, ne-eqb, le-leb, lt-leb, eqb-true, leb-true}
 use Rattle.numbers.specs.Refuse.{leaves}
 use Rattle.numbers.specs.RefuseLaws.{refuse-zero, firstOf-zero, leaves-made, leaves-before}
+use Rattle.vram.specs.declared.Cycle.{Cycle}
 use Rattle.vram.specs.Board.{Board, effect}
-use Rattle.vram.specs.Step.{givenOf, Engine, stepBy, runBy}
+use Rattle.vram.specs.Step.{givenOf, rowsOf, Engine, stepBy, runBy}
+use Rattle.vram.specs.StepLaws.{steps-same, runs-same}
 use Rattle.list.specs.declared.Bad.{Bad}
-use Rattle.list.specs.Meaning.{bad, cyclesOf, verdictOf as listVerdict, runCallBy as listCallBy}
+use Rattle.list.specs.Meaning.{bad, firstBad, cyclesOf, verdictOf as listVerdict, runCallBy as listCallBy}
 use Rattle.list.specs.JudgeLaws.{bad-first, bad-later, bad-zero}
 use Rattle.list.specs.PersistLaws.{call-plain}
-use Rattle.list.specs.CallLaws.{verdict-given, call-given-by, call-runs-by, call-refuses-by}
+use Rattle.list.specs.CallLaws.{verdict-given, verdict-judged, call-given-by, call-runs-by, call-refuses-by}
 use Rattle.marks.specs.declared.Found.{Found}
 use Rattle.marks.specs.declared.Found.the-variants.{None, Row}
 use Rattle.marks.specs.Marks.{noMarks, markedByAll, firstMarked}
-use Rattle.marks.specs.Calls.{lengthNumber, verdictOf, Outcome, gives, runCallBy, runCall, cleared, clearCall, nextNumber, answers, nextCall, values, valuesOf, answered}
+use Rattle.marks.specs.Calls.{lengthNumber, verdictOf, Outcome, gives, runCallBy, runCall, markCall, cleared, clearCall, nextNumber, answers, nextCall, values, valuesOf, answered}
 
 -- ---- 18
 
@@ -105,6 +107,30 @@ module _ (e : Engine) (list : List ℕ) (b : Board) (marks : List ℕ) where
         | yes z ↦ leaves-made _ b _ z ∙ sym (call-runs-by e list b z)
         | no n ↦ leaves-before _ b _ n ∙ sym (call-refuses-by e list b n)
       ]
+
+-- two engines that do the same give the same answers and leave the same, marks included
+pub marked-same : {e f : Engine} → ((c : Cycle) (b : Board) → e c b ≡ f c b) → (list : List ℕ) (b : Board) (marks : List ℕ)
+    → runCallBy e list b marks ≡ runCallBy f list b marks
+unfolding runCallBy
+marked-same h list b marks =
+    let v = verdictOf list b (length marks) in
+    ap (λ (x : Board). gives v (leaves (v .number) b x) (leaves (v .number) marks (markedByAll (cyclesOf list) marks)))
+    (runs-same (steps-same h) (cyclesOf list) b)
+
+-- an engine that runs the list itself: 1 to 3, and else what the list is checked and marked with
+module _ (e : Engine) (list : List ℕ) (b : Board) (marks : List ℕ) where
+  pub run-first-by : givenOf b ≢ 0 → runCallBy e list b marks ≡ gives (bad (givenOf b) 0) b marks
+  run-first-by h =
+      let v = verdict-first list b (length marks) h in
+      run-refuses-by e list b marks (λ z. h (sym (ap (λ (w : Bad). w .number) v) ∙ z)) ∙ ap (λ (w : Bad). gives w b marks) v
+
+  pub run-marks-by : givenOf b ≡ 0
+      → (let o = markCall list (rowsOf b) (b .state .loaded) marks in
+      runCallBy e list b marks ≡ gives (o .given) (leaves (o .given .number) b (runBy (stepBy e) (cyclesOf list) b)) (o .marks))
+  unfolding runCallBy verdictOf markCall
+  run-marks-by g =
+      ap (λ (w : Bad). gives w (leaves (w .number) b (runBy (stepBy e) (cyclesOf list) b)) (leaves (w .number) marks (markedByAll (cyclesOf list) marks)))
+      (bad-later (bad (givenOf b) 0) _ g ∙ ap (firstBad (bad (lengthNumber (length marks)) 0)) (verdict-judged list b g))
 
 -- no marked run, accepted or refused, makes a mask persistent that was not
 pub run-plain : (list : List ℕ) (b : Board) (marks : List ℕ) → b .state .persistent ≡ false → runCall list b marks .after .state .persistent ≡ false

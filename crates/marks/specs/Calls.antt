@@ -1,6 +1,6 @@
 -- What each call answers and leaves: change request M-104. Assumes nothing.
 use Prim.Native.Nat.{ℕ, _-_}
-use mathlib.Core.Bool.{cond}
+use mathlib.Core.Bool.{Bool, cond}
 use mathlib.Core.List.{List}
 use lib.Dec.{eqb, leb}
 use lib.ListN.{length}
@@ -9,7 +9,9 @@ use Rattle.vram.specs.Board.{Board, board, effect}
 use Rattle.vram.specs.Step.{givenOf, Engine, stepBy, runBy}
 use Rattle.list.specs.declared.Bad.{Bad}
 use Rattle.list.specs.declared.Ran.{Ran}
-use Rattle.list.specs.Meaning.{bad, firstBad, cyclesOf, verdictOf as listVerdict}
+use Rattle.list.specs.declared.Open.the-variants.{None as Closed}
+use Rattle.list.specs.Fields.{fields}
+use Rattle.list.specs.Meaning.{bad, firstBad, judged, cyclesOf, verdictOf as listVerdict}
 use Rattle.marks.specs.declared.Found.{Found}
 use Rattle.marks.specs.declared.Found.the-variants.{None, Row}
 use Rattle.marks.specs.declared.Marked.{Marked}
@@ -46,6 +48,22 @@ runCallBy e list b marks =
 -- by the engine of the rules
 abbrev pub runCall : List ℕ → Board → List ℕ → Outcome
 runCall = runCallBy effect
+
+-- ---- a list checked and marked, for an engine that runs it itself
+
+-- number and place, and the marks afterwards
+pub record Noted : Type 0 where
+  pub given : Bad
+  pub marks : List ℕ
+
+abbrev pub noted : Bad → List ℕ → Noted
+noted v marks = record { given = v; marks = marks }
+
+-- 18 with place 0, then what refuses the list's fields; where nothing does, the rows that its writes name are marked
+unfoldable pub markCall : List ℕ → ℕ → Bool → List ℕ → Noted
+markCall list rows made marks =
+    let v = firstBad (bad (lengthNumber (length marks)) 0) (judged rows made Closed 0 (fields list)) in
+    noted v (leaves (v .number) marks (markedByAll (cyclesOf list) marks))
 
 -- ---- all marks cleared
 

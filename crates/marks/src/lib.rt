@@ -2,11 +2,13 @@
 // of byte r / 8. A mark is set when a word or block write that names the row has run, even if it changed no bit.
 ghost use mathlib.Core.Path.{_≡_};
 ghost use Rattle.vram.specs.Board.{board};
-ghost use Rattle.marks.specs.Calls.{lengthNumber, outcome, runCall, cleared, clearCall, nextCall};
+ghost use Rattle.marks.specs.Calls.{lengthNumber, outcome, runCall, noted, markCall, cleared, clearCall, nextCall};
 
 mod rows;
 
+use list::Bad;
 use list::Ran;
+use list::check;
 use numbers::refuse;
 use rows::first_from;
 use rows::mark_writes;
@@ -59,6 +61,26 @@ pub fn run(
     }
     mark_writes(list, marks);
     ran
+}
+
+// For an engine that runs a list itself: the list is checked, 18 first, and where nothing refuses it the rows that its writes name are
+// marked.
+pub fn mark_list(list: &[u8], rows: usize, loaded: bool, marks: &mut [u8]) -> Bad
+    ensures { λ r. ⌜ noted r (now (marks .exit)) ≡ markCall (now (list .entry)) rows loaded (now (marks .entry)) ⌝ }
+{
+    let n = length_number(marks.len());
+    if n != numbers::DONE {
+        return Bad {
+            number: n,
+            place: 0,
+        };
+    }
+    let bad = check(list, rows, loaded);
+    if bad.number != numbers::DONE {
+        return bad;
+    }
+    mark_writes(list, marks);
+    bad
 }
 
 // All marks cleared.

@@ -14,17 +14,17 @@ use Rattle.marks.specs.Runs.{Drawn, after as belowAfter, afterAll as belowAfter
 use Rattle.marks.specs.RunLaws.{order-none, order-next}
 use Rattle.marks.specs.Walk.{visited as belowVisited}
 use Rattle.marks.specs.WalkLaws.{visited-same}
-use Rattle.marks_c.specs.Calls.{markedCall, handedNext}
+use Rattle.marks_c.specs.Calls.{markedCallBy, handedNext}
 use Rattle.marks_c.specs.Runs.{Run, after, afterAll, runOf, runsOf, foundIn, visited}
 
 -- ---- runs
 
 after-lawful : (r : Run) (d : Drawn) → lawful (r .state) ≡ true → after r d ≡ belowAfter (runOf r) d
-unfolding markedCall
+unfolding markedCallBy
 after-lawful r d h = rw h
 
 after-excluded : (r : Run) (d : Drawn) → lawful (r .state) ≡ false → after r d ≡ d
-unfolding markedCall
+unfolding markedCallBy
 after-excluded r d h = rw h
 
 pub runs-below : (rs : List Run) (d : Drawn) → afterAll rs d ≡ belowAfterAll (runsOf rs) d

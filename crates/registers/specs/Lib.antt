@@ -4,3 +4,7 @@
 pub mod State
 -- there and back
 pub mod StateLaws
+-- a list's call, by any engine
+pub mod Lists
+-- of the same
+pub mod ListLaws

@@ -101,6 +101,11 @@ module _ {A : Type 0} (made : Vram → A) (excluded : A) where
       go true e = f e
       go false e = g
 
+-- two calls that make the same of every state are the same call
+pub taking-same : {A : Type 0} (made other : Vram → A) (excluded : A) (s : Registers) → ((v : Vram) → made v ≡ other v)
+    → taking s made excluded ≡ taking s other excluded
+taking-same made other excluded s h = ap (λ x. cond (lawful s) x excluded) (h (taken s))
+
 -- ---- persistence: a state that is not persistent is handed to C with 0, and taken from 0
 
 pub handed-plain : (v : Vram) → v .persistent ≡ false → handed v .persistent ≡ 0

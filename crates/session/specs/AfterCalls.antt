@@ -12,9 +12,11 @@ use Rattle.page.specs.CallLaws.{page-13}
 use Rattle.registers.specs.declared.Registers.{Registers}
 use Rattle.registers.specs.State.{handed}
 use Rattle.registers.specs.StateLaws.{handed-plain}
+use Rattle.registers.specs.ListLaws.{list-plain}
 use Rattle.marks_c.specs.CallLaws.{marked-plain}
-use Rattle.host.specs.CallLaws.{list-plain, clock-plain, panel-plain}
-use Rattle.session.specs.Session.{Call, list, marked, clock, panel, after, session}
+use Rattle.pencil_c.specs.CallLaws.{pencil-plain, pencil-marked-plain}
+use Rattle.host.specs.CallLaws.{clock-plain, panel-plain}
+use Rattle.session.specs.Session.{Call, list, marked, pencil, pencilMarked, clock, panel, after, session}
 
 -- ---- no call, accepted or refused, makes a mask persistent that was not
 
@@ -22,6 +24,8 @@ module _ (s : Registers) (e : s .persistent ≡ 0) where
   after-plain : (c : Call) → after c s .persistent ≡ 0
   after-plain (list memory serial bytes) = list-plain s e memory serial bytes
   after-plain (marked memory serial marks bytes) = marked-plain s e memory serial marks bytes
+  after-plain (pencil memory serial bytes) = pencil-plain s e memory serial bytes
+  after-plain (pencilMarked memory serial marks bytes) = pencil-marked-plain s e memory serial marks bytes
   after-plain (clock serial) = clock-plain s e serial
   after-plain (panel parts serial palette table clocks blank out) = panel-plain s e parts serial palette table clocks blank out
 

@@ -4,12 +4,15 @@ use mathlib.Core.List.{List, [], _∷_}
 use Rattle.palette.specs.declared.Palette.{Palette}
 use Rattle.registers.specs.declared.Registers.{Registers}
 use Rattle.marks_c.specs.Calls.{markedCall}
+use Rattle.pencil_c.specs.Calls.{pencilCall, pencilMarkedCall}
 use Rattle.host.specs.Calls.{listCall, clockCall, panelCallBy}
 
 -- each with all that it is given and lent beside the state: of what the call before left nothing is asked
 pub data Call : Type 0 where
   list : (memory serial bytes : List ℕ) → Call
   marked : (memory serial marks bytes : List ℕ) → Call
+  pencil : (memory serial bytes : List ℕ) → Call
+  pencilMarked : (memory serial marks bytes : List ℕ) → Call
   clock : (serial : List ℕ) → Call
   panel : (parts : ℕ → ℕ) (serial : List ℕ) (palette : Palette) (table : List ℕ) (clocks blank : ℕ) (out : List ℕ) → Call
 
@@ -17,6 +20,8 @@ pub data Call : Type 0 where
 abbrev pub after : Call → Registers → Registers
 after (list memory serial bytes) s = listCall s memory serial bytes .answer .state
 after (marked memory serial marks bytes) s = markedCall s memory serial marks bytes .answer .state
+after (pencil memory serial bytes) s = pencilCall s memory serial bytes .answer .state
+after (pencilMarked memory serial marks bytes) s = pencilMarkedCall s memory serial marks bytes .answer .state
 after (clock serial) s = clockCall s serial .state
 after (panel parts serial palette table clocks blank out) s = panelCallBy parts s serial palette table clocks blank out .answer .state
 

@@ -1,20 +1,23 @@
 -- The definitions case by case, so that other crates need not open them. Assumes nothing.
 use mathlib.Core.Path.{_≡_, refl, sym, ap, _∙_, subst}
-use mathlib.Core.Bool.{Bool, true, false, _||_, cond, true≢false}
+use mathlib.Core.Bool.{Bool, true, false, _&&_, _||_, cond, true≢false}
 use mathlib.Core.List.{List, [], _∷_}
 use mathlib.Core.Logic.{_≢_, inl, ⊎-elim}
-use Prim.Native.Nat.{ℕ, _/_, _≤_, _<_}
+use Prim.Native.Nat.{ℕ, _+_, _*_, _/_, _≤_, _<_}
 use native.Mathlib.Omega.{arith}
 use lib.Dec.{eqb}
 use borrow.Author.Tests.{eqb-true}
+use Rattle.numbers.specs.Refuse.{firstOf, leaves}
 use Rattle.numbers.specs.RefuseLaws.{firstOf-later}
+use Rattle.words.specs.Word.{lets}
 use Rattle.vram.specs.declared.Cycle.{Cycle}
 use Rattle.vram.specs.declared.Cycle.the-variants.{WordWrite, BlockWrite, LoadColour, LoadMask, ResetRefresh, FullTransfer, SplitTransfer, StopPoints}
-use Rattle.vram.specs.Board.{Board}
+use Rattle.vram.specs.Memory.{put, puts}
+use Rattle.vram.specs.Board.{Board, board, allowed, effect}
 use Rattle.refusals.specs.Refusal.{refusing, writeRefusal, loadRefusal, fullRefusal, splitRefusal, stopRefusal}
 use Rattle.vram.specs.Refusal.{refusal}
 use Rattle.refusals.specs.RefusalLaws.{write-zero, masked-write, Range, write-among, load-among, full-among, split-among, stop-among}
-use Rattle.vram.specs.Step.{givenOf, rowsOf, number, Engine, runBy, step, run}
+use Rattle.vram.specs.Step.{givenOf, rowsOf, number, Engine, stepBy, runBy, step, run}
 use Rattle.vram.specs.StepLaws.{run-holds}
 use Rattle.vram.specs.RuleLaws.{step-sized, run-sized, step-given}
 use Rattle.vram.specs.Calls.{cycleCall}
@@ -25,6 +28,28 @@ use Rattle.vram.specs.Kinds.{tagOf, targetOf, names, loads, persists}
 pub cycle-after : (c : Cycle) (b : Board) → cycleCall c b .after ≡ step c b
 unfolding cycleCall
 cycle-after c b = refl
+
+-- ---- a step: the engine's doing where nothing is refused
+
+pub step-is : (e : Engine) (c : Cycle) (b : Board) → stepBy e c b ≡ leaves (number c b) b (e c b)
+unfolding stepBy
+step-is e c b = refl
+
+-- ---- what a write leaves
+
+pub effect-word : (row column word masking mask strobes : ℕ) (b : Board)
+    → effect (WordWrite row column word masking mask strobes) b
+    ≡ board (b .state) (put (b .memory) (512 * row + column) word (allowed (b .state) masking mask strobes)) (b .serial)
+unfolding effect
+effect-word row column word masking mask strobes b = refl
+
+pub effect-block : (row column columns masking mask strobes : ℕ) (b : Board)
+    → effect (BlockWrite row column columns masking mask strobes) b
+    ≡ board (b .state)
+    (puts (b .memory) (512 * row + 4 * (column / 4)) (b .state .colour) (λ j i. lets columns j i && allowed (b .state) masking mask strobes i) 4)
+    (b .serial)
+unfolding effect
+effect-block row column columns masking mask strobes b = refl
 
 -- ---- a run, cycle by cycle
 
@@ -52,6 +77,18 @@ run-rows l b = ap (λ (n : ℕ). n / 512) (run-sized l b .memory)
 pub number-is : (c : Cycle) (b : Board) → givenOf b ≡ 0 → number c b ≡ refusal (rowsOf b) (b .state .loaded) c
 unfolding number
 number-is c b g = firstOf-later (givenOf b) (refusal (rowsOf b) (b .state .loaded) c) g
+
+-- ---- a write's number: 1 to 3, then 5 to 8
+
+pub number-word : (row column word masking mask strobes : ℕ) (b : Board)
+    → number (WordWrite row column word masking mask strobes) b ≡ firstOf (givenOf b) (writeRefusal (rowsOf b) row column masking mask strobes)
+unfolding number refusal
+number-word row column word masking mask strobes b = refl
+
+pub number-block : (row column columns masking mask strobes : ℕ) (b : Board)
+    → number (BlockWrite row column columns masking mask strobes) b ≡ firstOf (givenOf b) (writeRefusal (rowsOf b) row column masking mask strobes)
+unfolding number refusal
+number-block row column columns masking mask strobes b = refl
 
 -- ---- the refusal of each kind of cycle
 

@@ -15,6 +15,21 @@ use Rattle.words.specs.WordLaws.{merged-cong}
 use Rattle.vram.specs.Memory.{put, puts, copied}
 use Rattle.vram.specs.ListLaws.{map-take, map-drop}
 
+-- ---- the definitions case by case
+
+pub put-is : (m : List ℕ) (at new : ℕ) (w : ℕ → Bool) → put m at new w ≡ set m at (merged (getD m at 0) new w)
+unfolding put
+put-is m at new w = refl
+
+module _ (m : List ℕ) (base new : ℕ) (w : ℕ → ℕ → Bool) where
+  pub puts-none : puts m base new w 0 ≡ m
+  unfolding puts
+  puts-none = refl
+
+  pub puts-next : (k : ℕ) → puts m base new w (suc k) ≡ put (puts m base new w k) (base + k) new (w k)
+  unfolding puts
+  puts-next k = refl
+
 -- ---- lengths are kept
 
 pub put-length : (m : List ℕ) (at new : ℕ) (w : ℕ → Bool) → length (put m at new w) ≡ length m

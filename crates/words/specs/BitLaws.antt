@@ -34,6 +34,12 @@ pub digit-small : (p : Bool) → leb (digit p) 1 ≡ true
 digit-small true = refl
 digit-small false = refl
 
+-- ---- a bit by division
+
+pub bit-is : (n b : ℕ) → bit n b ≡ eqb (n / 2 ^ b % 2) 1
+unfolding bit
+bit-is n b = refl
+
 -- ---- an operation on digits
 
 module _ (op : ℕ → ℕ → ℕ) (f : Bool → Bool → Bool)
@@ -226,6 +232,12 @@ pub bit-none : (b : ℕ) → bit 0 b ≡ false
 unfolding bit
 bit-none zero = refl
 bit-none (suc b) = sym (bit-half 0 b) ∙ bit-none b
+
+-- a number of k bits has none from k on
+pub bit-above : (k n b : ℕ) → n < 2 ^ k → k ≤ b → bit n b ≡ false
+bit-above k n b h l =
+    let e : k + (b - k) ≡ b = omega arith in
+    ap (bit n) (sym e) ∙ sym (bit-shr n k (b - k)) ∙ ap (λ (x : ℕ). bit x (b - k)) (div-eq-of-lt h) ∙ bit-none (b - k)
 
 -- ---- a power of two has one bit
 

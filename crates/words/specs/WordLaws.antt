@@ -51,6 +51,14 @@ merged-again old new w =
 
 -- ---- strobes and column masks
 
+pub covers-is : (strobes b : ℕ) → covers strobes b ≡ bit strobes (b / 8)
+unfolding covers
+covers-is strobes b = refl
+
+pub lets-is : (columns j b : ℕ) → lets columns j b ≡ bit columns (4 * (b / 4) + j)
+unfolding lets
+lets-is columns j b = refl
+
 -- both strobes cover every bit
 pub covers-both : (b : ℕ) → b < 16 → covers 3 b ≡ true
 unfolding covers

@@ -1,7 +1,8 @@
 -- `host::linkshoar_list_run` meets its contract. Assumes nothing.
 use borrow.Author.Needs.{needs}
 use mathlib.Core.Path.{sym, _∙_}
-use Rattle.host.specs.CallLaws.{list-excluded, list-done}
+use Rattle.vram.specs.Board.{effect}
+use Rattle.registers.specs.ListLaws.{list-excluded, list-done}
 use Rattle.host.proofs.linkshoar_list_run.Statement.{statement}
 use Rattle.host.proofs.linkshoar_list_run.Tie as tie
 
@@ -29,13 +30,13 @@ returns c =
     let t = r .before .before .before in
     let l = t .before .before in
     let a = l .before .before .before .before .args in
-    list-done (a .state) (sym (l .lawful .ensures) ∙ t .before .if1 .taken) (t .take .result) (t .take .ensures)
+    list-done effect (a .state) (sym (l .lawful .ensures) ∙ t .before .if1 .taken) (t .take .result) (t .take .ensures)
     (a .memory .now) (a .serial .now) (a .list .now) (r .run .result) (r .run .last .1 .0) (r .run .last .1 .1 .0) (r .run .ensures) (c .hand-ran .result) (c .hand-ran .ensures)
 
 returns-2 : tie.Need-returns-2
 returns-2 c =
     let a = c .before .before .before .before .before .args in
-    list-excluded (a .state) (sym (c .before .lawful .ensures) ∙ c .if1 .left) (a .memory .now) (a .serial .now) (a .list .now)
+    list-excluded effect (a .state) (sym (c .before .lawful .ensures) ∙ c .if1 .left) (a .memory .now) (a .serial .now) (a .list .now)
 
 pub linkshoar-list-run-spec : {M : Type 1} → statement M
 linkshoar-list-run-spec =

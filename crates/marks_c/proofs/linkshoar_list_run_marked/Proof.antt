@@ -1,5 +1,6 @@
 -- `marks_c::linkshoar_list_run_marked` meets its contract. Assumes nothing.
 use mathlib.Core.Path.{sym, _∙_}
+use Rattle.vram.specs.Board.{effect}
 use Rattle.marks_c.specs.CallLaws.{marked-excluded, marked-done}
 use borrow.Author.Needs.{needs}
 use Rattle.marks_c.proofs.linkshoar_list_run_marked.Statement.{statement}
@@ -32,13 +33,13 @@ returns c =
     let t = r .before .before .before .before in
     let l = t .before .before in
     let a = l .before .before .before .before .before .args in
-    marked-done (a .state) (a .memory .now) (a .serial .now) (a .marks .now) (a .list .now) (sym (l .lawful .ensures) ∙ t .before .if1 .taken) (t .take .result) (t .take .ensures)
+    marked-done effect (a .state) (a .memory .now) (a .serial .now) (a .marks .now) (a .list .now) (sym (l .lawful .ensures) ∙ t .before .if1 .taken) (t .take .result) (t .take .ensures)
     (r .run .result) (r .run .last .1 .0) (r .run .last .1 .1 .0) (r .run .last .1 .1 .1 .0) (r .run .ensures) (c .hand-ran .result) (c .hand-ran .ensures)
 
 returns-2 : tie.Need-returns-2
 returns-2 c =
     let a = c .before .before .before .before .before .before .args in
-    marked-excluded (a .state) (a .memory .now) (a .serial .now) (a .marks .now) (a .list .now) (sym (c .before .lawful .ensures) ∙ c .if1 .left)
+    marked-excluded effect (a .state) (a .memory .now) (a .serial .now) (a .marks .now) (a .list .now) (sym (c .before .lawful .ensures) ∙ c .if1 .left)
 
 pub linkshoar-list-run-marked-spec : {M : Type 1} → statement M
 linkshoar-list-run-marked-spec =

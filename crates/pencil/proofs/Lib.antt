@@ -1,0 +1,4 @@
+-- What belongs to no one function.
+pub mod Turns
+pub mod Outs
+pub mod Once
