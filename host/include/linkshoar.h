@@ -32,7 +32,8 @@
 extern "C" {
 #endif
 
-/* Since 4.9.0 a list can be run with marks of rows: linkshoar_list_run_marked, linkshoar_marks_clear, linkshoar_marks_next, and number 18 is
+/* Since 4.10.0 there is a second engine for lists, the plain one: linkshoar_pencil_run, linkshoar_pencil_run_marked. No program must change.
+ * Since 4.9.0 a list can be run with marks of rows: linkshoar_list_run_marked, linkshoar_marks_clear, linkshoar_marks_next, and number 18 is
  * new. No program must change; one whose link sends the whole screen after each list may send the marked rows alone (see "Marks of rows").
  * Since 4.8.0 there is linkshoar_page: a page of fills by one call. No program must change; one that fills rectangle after rectangle may name
  * them in one list (linkshoar_put_rectangle) and call once.
@@ -57,7 +58,7 @@ extern "C" {
  * program that fills both bytes with FFFF to show entry 255 fills them with 00FF.
  * Since 4.3.0 the two palette reads take the table, and after a read of blue the colour registers take the next entry and the address goes
  * up by one: a program that then reads the same entry again, writes colours or reads the address sets the address first. */
-#define LINKSHOAR_VERSION "4.9.0"
+#define LINKSHOAR_VERSION "4.10.0"
 
 /* The numbers given back. Where several apply the lowest is given; in a list the first bad field wins, then its lowest number, and 20 is
  * given only where no field is refused; in a page the first bad field wins over 13 and 15; 18 comes straight after 3, before 5 and before any
@@ -441,6 +442,15 @@ linkshoar_ran linkshoar_list_run(linkshoar_vram state, uint16_t *memory, size_t 
  * place 0; then as linkshoar_list_run is. */
 linkshoar_ran linkshoar_list_run_marked(linkshoar_vram state, uint16_t *memory, size_t words, uint16_t *serial, size_t serial_words,
                                         uint8_t *marks, size_t marks_bytes, const uint8_t *list, size_t length);
+
+/* The same two on the plain engine, for whoever wants to follow a list with a pencil, or to have one engine checked by the other: every word
+ * write is done bit by bit, every block write as four word writes, one for each column, through the bits that the column mask and the mask
+ * in force leave it. On every input they answer and leave what linkshoar_list_run and linkshoar_list_run_marked do, refused or not, and the
+ * four may take turns on one state, memory and marks; they take some twenty times as long on writes. */
+linkshoar_ran linkshoar_pencil_run(linkshoar_vram state, uint16_t *memory, size_t words, uint16_t *serial, size_t serial_words,
+                                   const uint8_t *list, size_t length);
+linkshoar_ran linkshoar_pencil_run_marked(linkshoar_vram state, uint16_t *memory, size_t words, uint16_t *serial, size_t serial_words,
+                                          uint8_t *marks, size_t marks_bytes, const uint8_t *list, size_t length);
 
 /* Clears all marks; answers the number. Refused with 18. */
 uint32_t linkshoar_marks_clear(uint8_t *marks, size_t marks_bytes);

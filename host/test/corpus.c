@@ -1,5 +1,5 @@
-/* Runs each list of the corpus on 64 rows and a fresh state, by the library and by the second implementation, and compares all that they
- * answer and leave. A file is named NAME-number-place.list after what document 01 asks for it. */
+/* Runs each list of the corpus on 64 rows and a fresh state, by the library's two engines and by the second implementation, and compares all
+ * that they answer and leave. A file is named NAME-number-place.list after what document 01 asks for it. */
 #include "compare.h"
 #include "model.h"
 
@@ -8,6 +8,26 @@
 #include <string.h>
 
 enum { WORDS = 64 * 512 };
+
+typedef linkshoar_ran list_run(linkshoar_vram state, uint16_t *memory, size_t words, uint16_t *serial, size_t serial_words,
+                               const uint8_t *list, size_t length);
+
+static int try_engine(const char *path, list_run *ours, list_run *theirs, unsigned number, unsigned place, const uint8_t *list, size_t bytes)
+{
+    for (unsigned i = 0; i < WORDS; i++)
+        memory_a[i] = memory_b[i] = (uint16_t)(i * 40503u >> 3);
+    for (unsigned i = 0; i < 256; i++)
+        serial_a[i] = serial_b[i] = (uint16_t)(i * 25 + 7);
+    linkshoar_ran a = ours(linkshoar_vram_fresh(), memory_a, WORDS, serial_a, 256, list, bytes);
+    linkshoar_ran b = theirs(model_vram_fresh(), memory_b, WORDS, serial_b, 256, list, bytes);
+    if (a.number != number || a.place != place || b.number != number || b.place != place || !vram_same(a.state, b.state)) {
+        printf("DIFFERENCE: %s: %u at %u wanted, the library %u at %u, the second implementation %u at %u\n", path, number, place, a.number,
+               (unsigned)a.place, b.number, (unsigned)b.place);
+        return 1;
+    }
+    same_all();
+    return 0;
+}
 
 static int try_file(const char *path)
 {
@@ -27,19 +47,8 @@ static int try_file(const char *path)
         printf("%s: no number and place in its name\n", path);
         return 1;
     }
-    for (unsigned i = 0; i < WORDS; i++)
-        memory_a[i] = memory_b[i] = (uint16_t)(i * 40503u >> 3);
-    for (unsigned i = 0; i < 256; i++)
-        serial_a[i] = serial_b[i] = (uint16_t)(i * 25 + 7);
-    linkshoar_ran a = linkshoar_list_run(linkshoar_vram_fresh(), memory_a, WORDS, serial_a, 256, list, bytes);
-    linkshoar_ran b = model_list_run(model_vram_fresh(), memory_b, WORDS, serial_b, 256, list, bytes);
-    if (a.number != number || a.place != place || b.number != number || b.place != place || !vram_same(a.state, b.state)) {
-        printf("DIFFERENCE: %s: %u at %u wanted, the library %u at %u, the second implementation %u at %u\n", path, number, place, a.number,
-               (unsigned)a.place, b.number, (unsigned)b.place);
-        return 1;
-    }
-    same_all();
-    return 0;
+    return try_engine(path, linkshoar_list_run, model_list_run, number, place, list, bytes)
+        || try_engine(path, linkshoar_pencil_run, model_pencil_run, number, place, list, bytes);
 }
 
 int main(int argc, char **argv)
@@ -49,6 +58,6 @@ int main(int argc, char **argv)
     for (int i = 1; i < argc; i++)
         bad |= try_file(argv[i]);
     if (!bad)
-        printf("%d lists of the corpus, no difference\n", argc - 1);
+        printf("%d lists of the corpus on two engines, no difference\n", argc - 1);
     return bad;
 }

@@ -210,6 +210,7 @@ void try_edges(void)
     fill_edges();
     page_edges();
     marks_edges();
+    pencil_edges();
     panel_edges();
     every_word();
     every_part();

@@ -240,6 +240,53 @@ static void run_field(linkshoar_vram *s, uint16_t *memory, uint16_t *serial, mod
     }
 }
 
+/* ---- the plain engine: change request M-105, by its words */
+
+/* A word write, bit by bit, through a mask that is taken as given. */
+static void plain_word(uint16_t *word, unsigned data, unsigned mask, unsigned strobes)
+{
+    for (int i = 0; i < (FAULT == 71 ? 15 : 16); i++) { /* one bit short */
+        int strobe = FAULT == 72 ? bit(strobes, 1) : bit(strobes, i / 8); /* the high strobe on the low byte */
+        if (strobe && bit(mask, i))
+            put_bit(word, i, bit(data, i));
+    }
+}
+
+/* The bits of a mask that column j of a block has left: a quad keeps its four where the column mask has the quad's bit j. */
+static unsigned bits_left(unsigned columns, unsigned mask, unsigned j)
+{
+    unsigned left = 0;
+    for (unsigned quad = 0; quad < 4; quad++) {
+        unsigned from = FAULT == 69 ? (quad + 1) % 4 : quad; /* the bit taken from the next quad */
+        if (columns >> (4 * from + j) & 1)
+            left += mask & 15u << 4 * quad;
+    }
+    return left;
+}
+
+/* A block write as four word writes, all else as it was; f is a field that is not refused. */
+static void run_plain(linkshoar_vram *s, uint16_t *memory, uint16_t *serial, model_field f)
+{
+    unsigned force = f.masking ? s->persistent ? s->mask : f.mask : 0xFFFF;
+    if (f.tag == 1)
+        plain_word(memory + 512 * f.row + f.column, f.data, force, f.strobes);
+    else if (f.tag == 2) {
+        if (FAULT == 70 && f.masking) /* the persistent mask forgotten inside a block */
+            force = f.mask;
+        for (unsigned j = 0; j < (FAULT == 75 ? 3 : 4); j++) { /* the last column left out */
+            unsigned left = bits_left(f.data, force, j);
+            if (FAULT == 73 && s->persistent) /* a word write inside a block looks at the mask register again */
+                left = s->mask;
+            plain_word(memory + 512 * f.row + f.column / 4 * 4 + j, s->colour, left, FAULT == 74 ? 3 : f.strobes); /* its strobes ignored */
+        }
+    } else
+        run_field(s, memory, serial, f);
+}
+
+/* ---- lists, by either engine */
+
+typedef void engine(linkshoar_vram *s, uint16_t *memory, uint16_t *serial, model_field f);
+
 /* The offset of the last mask load that has no reset refresh after it, or the length where there is none: each is asked by itself. */
 static size_t left_open(const uint8_t *list, size_t length)
 {
@@ -259,8 +306,8 @@ static size_t left_open(const uint8_t *list, size_t length)
     return FAULT == 39 ? length : open; /* never refused: the rule before M-111 */
 }
 
-linkshoar_ran model_list_run(linkshoar_vram state, uint16_t *memory, size_t words, uint16_t *serial, size_t serial_words,
-                             const uint8_t *list, size_t length)
+static linkshoar_ran list_run(engine *run, linkshoar_vram state, uint16_t *memory, size_t words, uint16_t *serial, size_t serial_words,
+                              const uint8_t *list, size_t length)
 {
     linkshoar_ran r;
     memset(&r, 0, sizeof r);
@@ -299,7 +346,24 @@ linkshoar_ran model_list_run(linkshoar_vram state, uint16_t *memory, size_t word
         return r;
     }
     for (size_t at = 0; at < length; at += 3 + pair(list + at + 1))
-        run_field(&r.state, memory, serial, model_field_read(list + at));
+        run(&r.state, memory, serial, model_field_read(list + at));
+    return r;
+}
+
+linkshoar_ran model_list_run(linkshoar_vram state, uint16_t *memory, size_t words, uint16_t *serial, size_t serial_words,
+                             const uint8_t *list, size_t length)
+{
+    return list_run(run_field, state, memory, words, serial, serial_words, list, length);
+}
+
+linkshoar_ran model_pencil_run(linkshoar_vram state, uint16_t *memory, size_t words, uint16_t *serial, size_t serial_words,
+                               const uint8_t *list, size_t length)
+{
+    linkshoar_ran r = list_run(run_plain, state, memory, words, serial, serial_words, list, length);
+#if FAULT == 76 /* a refused list draws the fields before */
+    if (r.number > 3)
+        list_run(run_plain, state, memory, words, serial, serial_words, list, (size_t)r.place);
+#endif
     return r;
 }
 
@@ -332,8 +396,8 @@ static void mark_rows(uint8_t *marks, const uint8_t *list, size_t length, const 
     }
 }
 
-linkshoar_ran model_list_run_marked(linkshoar_vram state, uint16_t *memory, size_t words, uint16_t *serial, size_t serial_words,
-                                    uint8_t *marks, size_t marks_bytes, const uint8_t *list, size_t length)
+static linkshoar_ran list_run_marked(engine *run, linkshoar_vram state, uint16_t *memory, size_t words, uint16_t *serial,
+                                     size_t serial_words, uint8_t *marks, size_t marks_bytes, const uint8_t *list, size_t length)
 {
     static uint16_t before[513 * 512];
     linkshoar_ran r;
@@ -347,7 +411,7 @@ linkshoar_ran model_list_run_marked(linkshoar_vram state, uint16_t *memory, size
         return r;
     if (FAULT == 62 && words)
         memcpy(before, memory, 2 * words);
-    r = model_list_run(state, memory, words, serial, serial_words, list, length);
+    r = list_run(run, state, memory, words, serial, serial_words, list, length);
     if (!r.number && marks_bytes != 64) { /* fault 64: 18 given when the list has run */
         r.state = state;
         r.number = 18;
@@ -360,6 +424,26 @@ linkshoar_ran model_list_run_marked(linkshoar_vram state, uint16_t *memory, size
     else if (FAULT == 59 && r.number > 3 && marks_bytes == 64) /* a refused list marks the rows of the fields before */
         mark_rows(marks, list, (size_t)r.place, before, memory);
     return r;
+}
+
+linkshoar_ran model_list_run_marked(linkshoar_vram state, uint16_t *memory, size_t words, uint16_t *serial, size_t serial_words,
+                                    uint8_t *marks, size_t marks_bytes, const uint8_t *list, size_t length)
+{
+    return list_run_marked(run_field, state, memory, words, serial, serial_words, marks, marks_bytes, list, length);
+}
+
+linkshoar_ran model_pencil_run_marked(linkshoar_vram state, uint16_t *memory, size_t words, uint16_t *serial, size_t serial_words,
+                                      uint8_t *marks, size_t marks_bytes, const uint8_t *list, size_t length)
+{
+#if FAULT == 77 /* the plain engine marks no row */
+    static uint8_t none[64];
+    marks = marks_bytes == 64 ? none : marks;
+#endif
+#if FAULT == 78 /* it runs a list whatever the length of the marks */
+    if (marks_bytes != 64)
+        return model_pencil_run(state, memory, words, serial, serial_words, list, length);
+#endif
+    return list_run_marked(run_plain, state, memory, words, serial, serial_words, marks, marks_bytes, list, length);
 }
 
 uint32_t model_marks_clear(uint8_t *marks, size_t marks_bytes)

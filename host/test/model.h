@@ -1,8 +1,8 @@
 /* A second implementation of document 01, and of the change requests that have landed, in plain C, bit by bit, written from the rules and not
  * from the proved code. The test program compares the two. FAULT plants one error: 1 to 6 those that document 01 lists or that earlier
  * versions had, 7 to 17 the Am8150's, 18 to 20 those of a palette read, 21 to 24 those of reverse video, 25 to 29 those of parts of eight
- * bits, 30 to 38 those of stop points, 39 to 46 those of masks left behind, 47 to 55 those of a page, 56 to 68 those of marks of rows. Each
- * must be found. */
+ * bits, 30 to 38 those of stop points, 39 to 46 those of masks left behind, 47 to 55 those of a page, 56 to 68 those of marks of rows, 69 to
+ * 78 those of the plain engine. Each must be found. */
 #ifndef MODEL_H
 #define MODEL_H
 
@@ -27,6 +27,10 @@ linkshoar_ran model_list_run(linkshoar_vram state, uint16_t *memory, size_t word
                              const uint8_t *list, size_t length);
 linkshoar_ran model_list_run_marked(linkshoar_vram state, uint16_t *memory, size_t words, uint16_t *serial, size_t serial_words,
                                     uint8_t *marks, size_t marks_bytes, const uint8_t *list, size_t length);
+linkshoar_ran model_pencil_run(linkshoar_vram state, uint16_t *memory, size_t words, uint16_t *serial, size_t serial_words,
+                               const uint8_t *list, size_t length);
+linkshoar_ran model_pencil_run_marked(linkshoar_vram state, uint16_t *memory, size_t words, uint16_t *serial, size_t serial_words,
+                                      uint8_t *marks, size_t marks_bytes, const uint8_t *list, size_t length);
 uint32_t model_marks_clear(uint8_t *marks, size_t marks_bytes);
 linkshoar_marked model_marks_next(const uint8_t *marks, size_t marks_bytes, uint32_t start);
 linkshoar_word model_word_read(const uint16_t *memory, size_t words, uint32_t row, uint32_t column, uint32_t strobes);

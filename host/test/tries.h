@@ -10,6 +10,8 @@ void page_edges(void);     /* page.c: pages and rooms of every length about that
 void try_marks(void);      /* marks.c: a list with marks, then the marks searched and cleared */
 void try_link(void);       /* marks.c: a link that sends the marked rows alone, whose copy must be the memory */
 void marks_edges(void);    /* marks.c: every row marked alone, every length about 64, every pair of refusals */
+void try_pencil(void);     /* pencil.c: a list on the plain engine, against the second implementation and against the fast engine */
+void pencil_edges(void);   /* pencil.c: every bit of a column mask in every column, with every strobe and mask; every length about the right one */
 void try_edges(void);      /* edges.c: every slice of every call empty, one short and one long, a memory of 513 rows; every word shown, every
                               byte as each part at both widths; a field of every tag; every partition length, and a run from every place */
 void try_fields(void);     /* fields.c: the header's functions that write a field, against the second implementation's reading of it */

@@ -6,6 +6,10 @@ use Rattle.words.specs.WordLaws.{lets-is}
 use Rattle.pencil.proofs.bits.let_through.Statement.{statement}
 use Rattle.pencil.proofs.bits.let_through.Tie as tie
 
+-- first, so that a wrong bit is refused for its value and not for a sum's width
+returns : tie.Need-returns
+returns c = c .has .ensures ∙ sym (lets-is (c .before .args .columns) (c .before .args .column % 4) (c .before .args .b))
+
 mul-has : tie.Need-mul-has
 mul-has c = search needs
 
@@ -14,9 +18,6 @@ add-has c = search needs
 
 has-requires : tie.Need-has-requires
 has-requires c κs = search needs
-
-returns : tie.Need-returns
-returns c = c .has .ensures ∙ sym (lets-is (c .before .args .columns) (c .before .args .column % 4) (c .before .args .b))
 
 pub let-through-spec : {M : Type 1} → statement M
 let-through-spec = tie.close (tie.spec mul-has add-has has-requires returns)

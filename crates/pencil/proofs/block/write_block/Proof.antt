@@ -45,7 +45,7 @@ loop-again c =
     let l = t .before .loop in (
       omega arith,
       w .write-word .kept .0 ∙ l .inv .1,
-      block-turn _ _ _ _ _ _ (l .memory) (l .j) (b .bits-left .result) _ (t .loop-test .taken) (l .inv .2) (b .bits-left .ensures) (w .write-word .ensures),
+      block-turn _ _ _ _ _ _ (l .memory) (l .j) (b .bits-left .result) _ (omega (arith, t .loop-test .taken)) (l .inv .2) (b .bits-left .ensures) (w .write-word .ensures),
     )
 
 same-length : tie.Need-same-length Inv-loop μ-loop
