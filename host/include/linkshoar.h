@@ -446,7 +446,8 @@ linkshoar_ran linkshoar_list_run_marked(linkshoar_vram state, uint16_t *memory, 
 /* The same two on the plain engine, for whoever wants to follow a list with a pencil, or to have one engine checked by the other: every word
  * write is done bit by bit, every block write as four word writes, one for each column, through the bits that the column mask and the mask
  * in force leave it. On every input they answer and leave what linkshoar_list_run and linkshoar_list_run_marked do, refused or not, and the
- * four may take turns on one state, memory and marks; they take some twenty times as long on writes. */
+ * four may take turns on one state, memory and marks. They are for the bench and not for the panel: a word write takes some three times as
+ * long, a block write some nine times. */
 linkshoar_ran linkshoar_pencil_run(linkshoar_vram state, uint16_t *memory, size_t words, uint16_t *serial, size_t serial_words,
                                    const uint8_t *list, size_t length);
 linkshoar_ran linkshoar_pencil_run_marked(linkshoar_vram state, uint16_t *memory, size_t words, uint16_t *serial, size_t serial_words,
