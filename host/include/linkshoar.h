@@ -1,5 +1,5 @@
 /* Linkshoar: a proved stand-in for one TMS55161 video RAM and one Am81C176 palette, a planner of shortest fills, marks of the rows that a
- * link must send, and for the older boards the counters of an Am8150.
+ * link must send, a second engine that can be followed with a pencil, and for the older boards the counters of an Am8150.
  *
  * The caller holds the states and lends the memory; nothing is allocated, nothing is kept, and no call blocks. A state goes in by value
  * and the new one comes back in the answer: keep it, since the next call takes it. Every call takes every input: what it cannot do it
@@ -32,7 +32,8 @@
 extern "C" {
 #endif
 
-/* Since 4.10.0 there is a second engine for lists, the plain one: linkshoar_pencil_run, linkshoar_pencil_run_marked. No program must change.
+/* Since 4.10.0 there is a second engine for lists, the plain one: linkshoar_pencil_run, linkshoar_pencil_run_marked. No program must change;
+ * where a row's mark is said to be set by a marked run, the marked run of either engine is meant.
  * Since 4.9.0 a list can be run with marks of rows: linkshoar_list_run_marked, linkshoar_marks_clear, linkshoar_marks_next, and number 18 is
  * new. No program must change; one whose link sends the whole screen after each list may send the marked rows alone (see "Marks of rows").
  * Since 4.8.0 there is linkshoar_page: a page of fills by one call. No program must change; one that fills rectangle after rectangle may name
@@ -389,11 +390,12 @@ static inline size_t linkshoar_put_rectangle(uint8_t *at, uint16_t first_row, ui
 /* ---- Marks of rows
  *
  * Which rows changed, for a link that would else send the whole screen. Row r's mark is bit r mod 8 of byte r / 8, in LINKSHOAR_MARKS_BYTES
- * lent bytes; it has nothing to do with the status mark in a word's high byte. Since marks were cleared a row is marked exactly when a word or
- * block write that names it has been run by linkshoar_list_run_marked with these marks, even if that changed no bit. No other cycle marks a
- * row, not even a transfer, which names one; a refused list marks none. So a row that is not marked holds the words that it held at the
- * clearing, as long as all drawing on that memory is done so, with these same marks: a host that writes words in place draws too. A list
- * without a word or block write may be run by linkshoar_list_run as well; clocks and panel runs draw nothing.
+ * lent bytes; it has nothing to do with the status mark in a word's high byte. Since marks were cleared a row is marked exactly when a word
+ * or block write that names it has been run with these marks, by linkshoar_list_run_marked or linkshoar_pencil_run_marked, even if that
+ * changed no bit. No other cycle marks a row, not even a transfer, which names one; a refused list marks none. So a row that is not marked
+ * holds the words that it held at the clearing, as long as all drawing on that memory is done so, with these same marks: a host that writes
+ * words in place draws too. A list without a word or block write may be run by linkshoar_list_run or linkshoar_pencil_run as well; clocks
+ * and panel runs draw nothing.
  *
  * The link copies the memory once and clears the marks, which clears bytes of any content; then, after any number of lists, this brings its
  * copy up to date, where nothing is drawn between the first line and the last (lists that only transfer rows may run there):
@@ -433,7 +435,7 @@ linkshoar_paged linkshoar_page(uint32_t rows, uint32_t persistent, const uint8_t
 
 /* Checks a list whole, then runs it in order; length: the list's bytes. A list with a mask load or a reset refresh, where it is not refused,
  * leaves the mask not persistent; any other leaves persistence as it was. So from a fresh state on no fill or page that is given the
- * state's own persistent is refused with 13, and the same holds with the marked run below. Refused with 1 to 10, 19, 20. */
+ * state's own persistent is refused with 13, and the same holds with the three runs below. Refused with 1 to 10, 19, 20. */
 linkshoar_ran linkshoar_list_run(linkshoar_vram state, uint16_t *memory, size_t words, uint16_t *serial, size_t serial_words,
                                  const uint8_t *list, size_t length);
 
@@ -443,11 +445,15 @@ linkshoar_ran linkshoar_list_run(linkshoar_vram state, uint16_t *memory, size_t 
 linkshoar_ran linkshoar_list_run_marked(linkshoar_vram state, uint16_t *memory, size_t words, uint16_t *serial, size_t serial_words,
                                         uint8_t *marks, size_t marks_bytes, const uint8_t *list, size_t length);
 
-/* The same two on the plain engine, for whoever wants to follow a list with a pencil, or to have one engine checked by the other: every word
- * write is done bit by bit, every block write as four word writes, one for each column, through the bits that the column mask and the mask
- * in force leave it. On every input they answer and leave what linkshoar_list_run and linkshoar_list_run_marked do, refused or not, and the
- * four may take turns on one state, memory and marks. They are for the bench and not for the panel: a word write takes some three times as
- * long, a block write some nine times. */
+/* The same two on the plain engine, whose writes can be followed with a pencil: every word write is done bit by bit, every block write as
+ * four word writes of the colour register, one for each column of the block, with the field's strobes. The word write of column j goes
+ * through the bits that the column has left: those of the mask in force where the column mask lets them through (see
+ * linkshoar_put_block_write). It takes them as its mask as given: four word writes of a list would take the mask register in their place
+ * while that is persistent.
+ * On every input linkshoar_pencil_run answers and leaves what linkshoar_list_run does, and linkshoar_pencil_run_marked what
+ * linkshoar_list_run_marked does; each may stand in for its fellow from list to list. To check a list, run it on one engine and, on copies of
+ * state, memory, serial register and marks, on the other, and compare. What refuses a list is one piece of code for both. Refused as those
+ * are. They are for the bench and not for the panel: a word write takes some four times as long, a block write some fifteen times. */
 linkshoar_ran linkshoar_pencil_run(linkshoar_vram state, uint16_t *memory, size_t words, uint16_t *serial, size_t serial_words,
                                    const uint8_t *list, size_t length);
 linkshoar_ran linkshoar_pencil_run_marked(linkshoar_vram state, uint16_t *memory, size_t words, uint16_t *serial, size_t serial_words,

@@ -10,8 +10,6 @@ void both_fill(uint32_t rows, uint32_t first_row, uint32_t end_row, uint32_t fir
 linkshoar_paged both_page(uint32_t rows, uint32_t persistent, size_t length, size_t room); /* in page.c; the answer */
 linkshoar_vram both_list_run(linkshoar_vram state, size_t words, size_t serial_words, size_t length); /* the new state */
 linkshoar_ran both_list_run_marked(linkshoar_vram state, size_t words, size_t serial_words, size_t marks, size_t length); /* in marks.c */
-linkshoar_vram both_pencil_run(linkshoar_vram state, size_t words, size_t serial_words, size_t length); /* in pencil.c; the new state */
-void both_pencil_run_marked(linkshoar_vram state, size_t words, size_t serial_words, size_t marks, size_t length);
 void both_marks_clear(size_t marks);
 linkshoar_marked both_marks_next(size_t marks, uint32_t start);
 void both_word_read(size_t words, uint32_t row, uint32_t column, uint32_t strobes);

@@ -243,7 +243,7 @@ static void run_field(linkshoar_vram *s, uint16_t *memory, uint16_t *serial, mod
 /* ---- the plain engine: change request M-105, by its words */
 
 /* A word write, bit by bit, through a mask that is taken as given. */
-static void plain_word(uint16_t *word, unsigned data, unsigned mask, unsigned strobes)
+static void pencil_word(uint16_t *word, unsigned data, unsigned mask, unsigned strobes)
 {
     for (int i = 0; i < (FAULT == 71 ? 15 : 16); i++) { /* one bit short */
         int strobe = FAULT == 72 ? bit(strobes, 1) : bit(strobes, i / 8); /* the high strobe on the low byte */
@@ -265,11 +265,11 @@ static unsigned bits_left(unsigned columns, unsigned mask, unsigned j)
 }
 
 /* A block write as four word writes, all else as it was; f is a field that is not refused. */
-static void run_plain(linkshoar_vram *s, uint16_t *memory, uint16_t *serial, model_field f)
+static void run_pencil(linkshoar_vram *s, uint16_t *memory, uint16_t *serial, model_field f)
 {
     unsigned force = f.masking ? s->persistent ? s->mask : f.mask : 0xFFFF;
     if (f.tag == 1)
-        plain_word(memory + 512 * f.row + f.column, f.data, force, f.strobes);
+        pencil_word(memory + 512 * f.row + f.column, f.data, force, f.strobes);
     else if (f.tag == 2) {
         if (FAULT == 70 && f.masking) /* the persistent mask forgotten inside a block */
             force = f.mask;
@@ -277,7 +277,7 @@ static void run_plain(linkshoar_vram *s, uint16_t *memory, uint16_t *serial, mod
             unsigned left = bits_left(f.data, force, j);
             if (FAULT == 73 && s->persistent) /* a word write inside a block looks at the mask register again */
                 left = s->mask;
-            plain_word(memory + 512 * f.row + f.column / 4 * 4 + j, s->colour, left, FAULT == 74 ? 3 : f.strobes); /* its strobes ignored */
+            pencil_word(memory + 512 * f.row + f.column / 4 * 4 + j, s->colour, left, FAULT == 74 ? 3 : f.strobes); /* its strobes ignored */
         }
     } else
         run_field(s, memory, serial, f);
@@ -359,10 +359,10 @@ linkshoar_ran model_list_run(linkshoar_vram state, uint16_t *memory, size_t word
 linkshoar_ran model_pencil_run(linkshoar_vram state, uint16_t *memory, size_t words, uint16_t *serial, size_t serial_words,
                                const uint8_t *list, size_t length)
 {
-    linkshoar_ran r = list_run(run_plain, state, memory, words, serial, serial_words, list, length);
+    linkshoar_ran r = list_run(run_pencil, state, memory, words, serial, serial_words, list, length);
 #if FAULT == 76 /* a refused list draws the fields before */
     if (r.number > 3)
-        list_run(run_plain, state, memory, words, serial, serial_words, list, (size_t)r.place);
+        list_run(run_pencil, state, memory, words, serial, serial_words, list, (size_t)r.place);
 #endif
     return r;
 }
@@ -443,7 +443,7 @@ linkshoar_ran model_pencil_run_marked(linkshoar_vram state, uint16_t *memory, si
     if (marks_bytes != 64)
         return model_pencil_run(state, memory, words, serial, serial_words, list, length);
 #endif
-    return list_run_marked(run_plain, state, memory, words, serial, serial_words, marks, marks_bytes, list, length);
+    return list_run_marked(run_pencil, state, memory, words, serial, serial_words, marks, marks_bytes, list, length);
 }
 
 uint32_t model_marks_clear(uint8_t *marks, size_t marks_bytes)

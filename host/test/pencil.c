@@ -19,23 +19,23 @@ static void same_run(const char *name, linkshoar_ran a, linkshoar_ran b, size_t 
     same_bytes(name, bytes_a, bytes_b, length);
 }
 
-linkshoar_vram both_pencil_run(linkshoar_vram state, size_t words, size_t serial_words, size_t length)
+static void both_pencil_run(linkshoar_vram state, size_t words, size_t serial_words, size_t length)
 {
     linkshoar_ran a = linkshoar_pencil_run(state, words_of(memory_a, words), words, words_of(serial_a, serial_words), serial_words,
                                            bytes_of(bytes_a, length), length);
     linkshoar_ran b = model_pencil_run(state, words_of(memory_b, words), words, words_of(serial_b, serial_words), serial_words,
                                        bytes_of(bytes_b, length), length);
     same_run("linkshoar_pencil_run", a, b, words, serial_words, 0, length);
-    return a.state;
 }
 
-void both_pencil_run_marked(linkshoar_vram state, size_t words, size_t serial_words, size_t marks, size_t length)
+static linkshoar_vram both_pencil_run_marked(linkshoar_vram state, size_t words, size_t serial_words, size_t marks, size_t length)
 {
     linkshoar_ran a = linkshoar_pencil_run_marked(state, words_of(memory_a, words), words, words_of(serial_a, serial_words), serial_words,
                                                   bytes_of(table_a, marks), marks, bytes_of(bytes_a, length), length);
     linkshoar_ran b = model_pencil_run_marked(state, words_of(memory_b, words), words, words_of(serial_b, serial_words), serial_words,
                                               bytes_of(table_b, marks), marks, bytes_of(bytes_b, length), length);
     same_run("linkshoar_pencil_run_marked", a, b, words, serial_words, marks, length);
+    return a.state;
 }
 
 /* The library's two engines, each on its own of what can be lent. */
@@ -56,6 +56,16 @@ static void both_engines(linkshoar_vram state, size_t words, size_t serial_words
     same_run("the library's two engines", a, b, words, serial_words, marks, length);
 }
 
+/* Lists one after the other on one state, memory and marks, each on either engine. */
+static void take_turns(linkshoar_vram state, uint32_t rows)
+{
+    for (uint32_t n = 1 + below(4); n; n--) {
+        size_t length = some_list(rows);
+        state = chance(2) ? both_pencil_run_marked(state, 512 * (size_t)rows, 256, BYTES, length)
+                          : both_list_run_marked(state, 512 * (size_t)rows, 256, BYTES, length).state;
+    }
+}
+
 /* A list of any kind, valid and damaged, on a state of any kind. */
 void try_pencil(void)
 {
@@ -66,6 +76,10 @@ void try_pencil(void)
     some_words(serial_a, serial_b, 256);
     some_bytes(table_a, table_b, BYTES);
     linkshoar_vram s = some_vram();
+    if (chance(8)) {
+        take_turns(s, rows);
+        return;
+    }
     size_t length = some_list(rows);
     switch (below(3)) {
     case 0: both_pencil_run(s, words, serial, length); break;
@@ -79,16 +93,16 @@ void try_pencil(void)
  * one. */
 void pencil_edges(void)
 {
-    static const size_t memories[] = {0, 511, 512, 513}, serials[] = {0, 255, 256, 257}, marks[] = {0, 63, 64, 65};
+    static const size_t memories[] = {0, 511, 512, 513 * 512}, serials[] = {0, 255, 256, 257}, marks[] = {0, 63, 64, 65};
     linkshoar_vram s = linkshoar_vram_fresh();
     s.colour = 0xA5C3;
     s.mask = 0x6BF9;
-    for (unsigned n = 0; n < 16 * 4 * 3 * 2 * 2; n++) {
+    for (unsigned n = 0; n < 16 * 4 * 3 * 2 * 2 * 2; n++) {
         unsigned columns = 1u << n % 16, column = 4 + n / 16 % 4, masking = n / 192 % 2;
         uint8_t strobes = (uint8_t)(1 + n / 64 % 3);
         s.persistent = (uint8_t)(n / 384 % 2);
         for (unsigned i = 0; i < 12; i++)
-            memory_a[i] = memory_b[i] = (uint16_t)(n % 2 ? 0xFFFF : 0);
+            memory_a[i] = memory_b[i] = (uint16_t)(n / 768 ? 0xFFFF : 0);
         size_t length = linkshoar_put_block_write(bytes_a, 0, (uint16_t)column, (uint16_t)columns, (uint8_t)masking, (uint16_t)(masking ? 0x9D17 : 0), strobes);
         length += linkshoar_put_word_write(bytes_a + length, 0, (uint16_t)(column - 4), (uint16_t)columns, (uint8_t)masking, (uint16_t)(masking ? 0x9D17 : 0), strobes);
         memcpy(bytes_b, bytes_a, length);

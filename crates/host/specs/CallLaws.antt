@@ -1,5 +1,5 @@
--- Laws of the clock and the runs to the panel: the two ways out of each; a refusal hands the state back as it came and changes nothing lent; another length than the
--- four is refused; none makes a mask persistent. Assumes nothing.
+-- Laws of the clock and the runs to the panel: the two ways out of each; a refusal hands the state back as it came and changes nothing lent;
+-- another length than the four is refused; none makes a mask persistent. Assumes nothing.
 use Prim.Native.Nat.{ℕ}
 use mathlib.Core.Path.{_≡_, refl, sym, ap, _∙_}
 use mathlib.Core.Bool.{Bool, true, false, cond}

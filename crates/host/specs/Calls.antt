@@ -1,8 +1,7 @@
--- What each export answers and leaves that takes the video RAM's state from C: 1 where no `Vram` can be so, and else what the call below
--- answers, with the state handed back. Assumes nothing.
+-- What the clock and the runs to the panel answer and leave, which take the video RAM's state from C: 1 where no `Vram` can be so, and else what
+-- the call below answers, with the state handed back. Assumes nothing.
 use Prim.Native.Nat.{ℕ}
 use mathlib.Core.List.{List}
-use Rattle.vram.specs.Board.{effect}
 use Rattle.vram.specs.declared.Clocked.{Clocked as VramClocked}
 use Rattle.vram.specs.Calls.{clockCall as vramClock}
 use Rattle.palette.specs.declared.Palette.{Palette}
@@ -10,15 +9,8 @@ use Rattle.panel.specs.Panel.{widened, unwidened}
 use Rattle.panel.specs.Calls.{Outcome as PanelOutcome, runCallBy as panelRunBy}
 use Rattle.registers.specs.declared.Registers.{Registers}
 use Rattle.registers.specs.State.{handed, taking}
-use Rattle.registers.specs.Lists.{Listed, listCallBy}
 use Rattle.host.specs.declared.Shown.{Shown}
 use Rattle.host.specs.declared.Clocked.{Clocked}
-
--- ---- a list
-
--- by the engine of the rules
-abbrev pub listCall : Registers → List ℕ → List ℕ → List ℕ → Listed
-listCall = listCallBy effect
 
 -- ---- a serial clock
 

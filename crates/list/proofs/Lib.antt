@@ -1,4 +1,3 @@
 -- What belongs to no one function.
 pub mod Turns
-pub mod Outs
 pub mod Once

@@ -73,6 +73,9 @@ module _ (list : List ℕ) (b : Board) where
     pub accepted-fields : verdict (rowsOf b) (b .state .loaded) 0 (fields list) .number ≡ 0
     accepted-fields = later .0
 
+    pub accepted-reads : readable (fields list) ≡ true
+    accepted-reads = accepted-readable (rowsOf b) (b .state .loaded) 0 (fields list) accepted-fields
+
     -- and no mask load is left open
     pub accepted-closed : openOf list ≡ None
     accepted-closed = left-zero (openOf list) (later .1)

@@ -43,6 +43,25 @@ module _ (s : List ℕ) where
       go false h true w = ap (headNumber rows made) (head-whole w) ∙ sym (number-whole s w rows made)
       go false h false w = ap (headNumber rows made) (head-wrong h w) ∙ sym (number-not s w rows made)
 
+-- ---- any bytes are walked by their heads, up to one that is no whole field
+
+-- what a head says of the cycles of the bytes
+abbrev pub Says : List ℕ → Head → Type 0
+Says s Waits = cyclesOf s ≡ []
+Says s Wrong = cyclesOf s ≡ []
+Says s (Whole cycle size) = (cyclesOf s ≡ cycle ∷ cyclesOf (drop size s)) × (0 < size) × (size ≤ length s)
+
+whole-walks : (s : List ℕ) → whole s ≡ true → Says s (Whole (cycleOf (tag s) (body s)) (3 + lenOf (tag s)))
+whole-walks s w = (cycles-whole s w, omega arith, whole-length s w)
+
+pub head-says : (s : List ℕ) → Says s (headOf s)
+head-says s = go (waits s) refl (whole s) refl
+  where
+    go : (t : Bool) → waits s ≡ t → (u : Bool) → whole s ≡ u → Says s (headOf s)
+    go true h u w = subst (Says s) (sym (head-waits s h)) (cycles-not s (waits-not s h))
+    go false h true w = subst (Says s) (sym (head-whole s w)) (whole-walks s w)
+    go false h false w = subst (Says s) (sym (head-wrong s h w)) (cycles-not s w)
+
 -- ---- a list that can be read is walked by its heads
 
 module _ (s : List ℕ) (p : 0 < length s) (r : readable (fields s) ≡ true) where
@@ -58,27 +77,12 @@ module _ (s : List ℕ) (p : 0 < length s) (r : readable (fields s) ≡ true) wh
   pub head-walks : Walks (cycleOf (tag s) (body s)) (3 + lenOf (tag s))
   head-walks =
       let w = readable-head s p r in
+      let t = whole-walks s w in
       record {
         head = head-whole s w;
-        cycles = cycles-whole s w;
-        some = omega arith;
-        inside = whole-length s w;
+        cycles = t .0;
+        some = t .1;
+        inside = t .2;
         most = omega (arith, len-most (tag s));
         rest = readable-tail s p r;
       }
-
--- ---- any bytes are walked by their heads, up to one that is no whole field
-
--- what a head says of the cycles of the bytes
-abbrev pub Says : List ℕ → Head → Type 0
-Says s Waits = cyclesOf s ≡ []
-Says s Wrong = cyclesOf s ≡ []
-Says s (Whole cycle size) = (cyclesOf s ≡ cycle ∷ cyclesOf (drop size s)) × (0 < size) × (size ≤ length s)
-
-pub head-says : (s : List ℕ) → Says s (headOf s)
-head-says s = go (waits s) refl (whole s) refl
-  where
-    go : (t : Bool) → waits s ≡ t → (u : Bool) → whole s ≡ u → Says s (headOf s)
-    go true h u w = subst (Says s) (sym (head-waits s h)) (cycles-not s (waits-not s h))
-    go false h true w = subst (Says s) (sym (head-whole s w)) (cycles-whole s w, omega arith, whole-length s w)
-    go false h false w = subst (Says s) (sym (head-wrong s h w)) (cycles-not s w)

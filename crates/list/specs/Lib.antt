@@ -32,6 +32,8 @@ pub mod OpenLaws
 pub mod JudgeLaws
 -- of the call, by any engine
 pub mod CallLaws
+-- the ways out of the call, by any engine
+pub mod OutLaws
 -- how many bytes and cycles a list has
 pub mod CountLaws
 -- an accepted list performs every field

@@ -10,13 +10,13 @@ use lib.ListN.{length, replicate}
 use Rattle.numbers.specs.Refuse.{refuse, firstOf, leaves}
 use Rattle.numbers.specs.RefuseLaws.{firstOf-is, firstOf-zero, firstOf-first, firstOf-later, leaves-made, leaves-before, refused-is, done-is}
 use Rattle.vram.specs.Board.{Board, effect}
-use Rattle.vram.specs.Step.{givenOf, rowsOf}
+use Rattle.vram.specs.Step.{givenOf}
 use Rattle.list.specs.declared.Bad.{Bad}
 use Rattle.list.specs.Fields.{fields}
 use Rattle.list.specs.declared.Open.the-variants.{None as Closed}
 use Rattle.list.specs.JudgeLaws.{bad-first, bad-later}
 use Rattle.list.specs.Meaning.{bad, firstBad, judged, readable, cyclesOf, verdictOf as listVerdict, Outcome as ListOutcome, runCall as listCall}
-use Rattle.list.specs.CallLaws.{accepted-readable, judged-readable, accepted-fields, call-given}
+use Rattle.list.specs.CallLaws.{judged-readable, accepted-reads, call-given}
 use Rattle.marks.specs.declared.Found.{Found}
 use Rattle.marks.specs.declared.Found.the-variants.{None}
 use Rattle.marks.specs.Marks.{noMarks, markedByAll, firstMarked}
@@ -57,7 +57,7 @@ module _ (list : List ℕ) (b : Board) (marks : List ℕ) (g k n : ℕ) (p : g �
     pub accepted-list : o .given .number ≡ 0 → readable (fields list) ≡ true
     accepted-list h =
         let z : listVerdict list b .number ≡ 0 = sym (ap (λ (x : ListOutcome). x .given .number) f ∙ ap (λ (v : Bad). v .number) (call-given list b)) ∙ h in
-        accepted-readable (rowsOf b) (b .state .loaded) 0 (fields list) (accepted-fields list b z)
+        accepted-reads list b z
 
     pub done-out : o .given .number ≡ 0 → (left : List ℕ) → left ≡ markedByAll (cyclesOf list) marks → gives (o .given) (o .after) left ≡ runCall list b marks
     done-out h left l = marked-out left (l ∙ sym (leaves-made (o .given .number) marks _ h))
@@ -84,8 +84,8 @@ module _ (list : List ℕ) (rows : ℕ) (made : Bool) (marks : List ℕ) where
       is-first : v ≡ first
       is-first = q ∙ sym (bad-later (bad (lengthNumber (length marks)) 0) own (sym e ∙ z))
 
-      pub unchecked-out : v .number ≢ 0 → noted v marks ≡ markCall list rows made marks
-      unchecked-out = unmarked-out v is-first
+      pub turned-down : v .number ≢ 0 → noted v marks ≡ markCall list rows made marks
+      turned-down = unmarked-out v is-first
 
       module _ (h : v .number ≡ 0) where
         pub checked-list : readable (fields list) ≡ true

@@ -66,3 +66,12 @@ module _ {S : Signature} {c : Contract S} where
     });
     once = λ κs a x y p q. once κs a x y (p .0) (q .0);
   }
+
+-- two contracts that equate the same of the outcome, with functions of the input that are equal, are one contract
+pub same-contract : (S : Signature) {c d : Contract S} {O : Type 0}
+    {made : (κs : Lfts (S .lifetimes)) → Args S κs → Res S κs → AtExit (ended S) κs → O} {f g : (κs : Lfts (S .lifetimes)) → Args S κs → O}
+    → c ≡ ensures S (λ κs a r e. made κs a r e ≡ f κs a)
+    → d ≡ ensures S (λ κs a r e. made κs a r e ≡ g κs a)
+    → ((κs : Lfts (S .lifetimes)) (a : Args S κs) → f κs a ≡ g κs a)
+    → c ≡ d
+same-contract S {made = made} p q h = p ∙ (λ i. ensures S (λ κs a r e. made κs a r e ≡ h κs a i)) ∙ sym q

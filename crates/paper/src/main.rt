@@ -1,10 +1,12 @@
-// Prints one block write worked through bit by bit, by the plain engine's own functions: the figures of docs/PENCIL.md (change request
-// M-105). Then a list that has it runs on both engines, and what they leave is printed.
+// Prints one block write worked through bit by bit: the figures of docs/PENCIL.md (change request M-105). Which bits are set, covered, let
+// through, left and written, and which mask is in force, is asked of the plain engine's own functions; the numbers of quads and of the column
+// mask's bits stand beside them for the reader. Then a list that has the block write runs on both engines.
 use list::Ran;
 use pencil::bits::has;
 use pencil::bits::let_through;
 use pencil::bits::strobed;
 use pencil::block::bits_left;
+use pencil::word::in_force;
 use pencil::word::write_bits;
 use vram::Vram;
 
@@ -17,12 +19,16 @@ const COLUMNS: u16 = 0xFF96;
 
 const STROBES: u8 = 1;
 
-const COLOUR: u16 = 0xE3DD;
+const MASKING: u8 = 1;
+
+const GIVEN: u16 = 0;
+
+const COLOUR: u16 = 0xE35D;
 
 const MASK: u16 = 0xFFF7;
 
 // The block's first word, and its four words before.
-const BASE: usize = 1540;
+const BASE: usize = 512 * ROW + 4 * (COLUMN / 4);
 
 const BEFORE: [u16; 4] = [0x8142, 0x8100, 0x81FF, 0x8037];
 
@@ -40,9 +46,10 @@ enum Row {
     After,
 }
 
-// One column of the block: its number, the bits that it has left, its word before and after.
+// One column of the block: its number, the mask in force, the bits that the column has left, its word before and after.
 struct Column {
     j: u16,
+    force: u16,
     left: u16,
     before: u16,
     after: u16,
@@ -100,7 +107,7 @@ fn entry(row: Row, column: Column, b: u16) -> u16 {
         Row::Quad => b / 4,
         Row::ColumnBit => 4 * (b / 4) + column.j % 4,
         Row::LetThrough => let_through(COLUMNS, column.j, b) as u16,
-        Row::InForce => has(MASK, b) as u16,
+        Row::InForce => has(column.force, b) as u16,
         Row::Left => has(column.left, b) as u16,
         Row::Strobe => strobed(STROBES, b) as u16,
         Row::Colour => has(COLOUR, b) as u16,
@@ -122,10 +129,12 @@ fn say_row(row: Row, column: Column) {
 
 // The working of column j of the block.
 fn say_column(j: u16, before: u16) {
-    let left = bits_left(COLUMNS, j, MASK);
+    let force = in_force(MASKING, true, MASK, GIVEN);
+    let left = bits_left(COLUMNS, j, force);
     let after = write_bits(before, COLOUR, left, STROBES);
     let column = Column {
         j,
+        force,
         left,
         before,
         after,
@@ -199,10 +208,10 @@ fn block_of(memory: [u16; 2048]) -> [u16; 4] {
 fn main() {
     // A colour load, a mask load, the block write, a reset refresh.
     let list =
-        *b"\x03\0\x03\xE3\xDD\x03\x04\0\x03\xFF\xF7\x03\x02\0\x0A\0\x03\0\x06\xFF\x96\x01\0\0\x01\x05\0\0";
+        *b"\x03\0\x03\xE3\x5D\x03\x04\0\x03\xFF\xF7\x03\x02\0\x0A\0\x03\0\x06\xFF\x96\x01\0\0\x01\x05\0\0";
     say_list(&list);
     say(b"first word ");
-    say_number(512 * ROW + 4 * (COLUMN / 4));
+    say_number(BASE);
     say(b"\n");
     say_column(0, BEFORE[0]);
     say_column(1, BEFORE[1]);

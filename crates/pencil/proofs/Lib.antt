@@ -2,3 +2,4 @@
 pub mod Turns
 pub mod Outs
 pub mod Once
+pub mod Alike

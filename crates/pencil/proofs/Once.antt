@@ -5,6 +5,7 @@ use Rattle.numbers.specs.DeterminesLaws.{by-result, by-outcome}
 use Rattle.pencil.proofs.bits.has as has
 use Rattle.pencil.proofs.bits.strobed as strobed
 use Rattle.pencil.proofs.bits.let_through as let-through
+use Rattle.pencil.proofs.word.in_force as in-force
 use Rattle.pencil.proofs.word.write_bits as write-bits
 use Rattle.pencil.proofs.block.bits_left as bits-left
 use Rattle.pencil.proofs.run as run
@@ -18,6 +19,9 @@ strobed-once = by-result refl (λ κs a v w. refl)
 
 pub let-through-once : Determines let-through.signature (λ M. let-through.clauses)
 let-through-once = by-result refl (λ κs a v w. refl)
+
+pub in-force-once : Determines in-force.signature (λ M. in-force.clauses)
+in-force-once = by-result refl (λ κs a v w. refl)
 
 pub write-bits-once : Determines write-bits.signature (λ M. write-bits.clauses)
 write-bits-once = by-result refl (λ κs a v w. refl)

@@ -1,7 +1,7 @@
 -- One turn of each loop, and the ways out of a write, by what the code has. Assumes nothing.
 use mathlib.Core.Path.{_≡_, refl, sym, ap, ap₂, _∙_, subst}
 use mathlib.Core.Bool.{Bool, true, false, cond}
-use mathlib.Core.List.{List}
+use mathlib.Core.List.{List, []}
 use Prim.Native.Nat.{ℕ, _+_, _-_, _*_, _/_, _%_, _≤_, _<_}
 use native.Mathlib.Omega.{arith}
 use native.Mathlib.Nat.{mod-eq-of-lt}
@@ -11,16 +11,15 @@ use lib.ListN.{length, take, drop}
 use Rattle.numbers.specs.BufferLaws.{tail-part, tail-length}
 use Rattle.numbers.specs.Refuse.{firstOf, leaves}
 use Rattle.numbers.specs.RefuseLaws.{firstOf-zero}
-use Rattle.refusals.specs.Refusal.{writeRefusal}
 use Rattle.refusals.specs.RefusalLaws.{Placed, write-zero}
 use Rattle.vram.specs.declared.Vram.{Vram}
 use Rattle.vram.specs.declared.Cycle.{Cycle}
 use Rattle.vram.specs.declared.Cycle.the-variants.{WordWrite, BlockWrite}
 use Rattle.vram.specs.Board.{Board, board, inForce}
 use Rattle.vram.specs.Refusal.{given}
-use Rattle.vram.specs.Step.{number, stepBy, runBy}
+use Rattle.vram.specs.Step.{givenOf, number, stepBy, runBy}
 use Rattle.vram.specs.StepLaws.{steps-same}
-use Rattle.vram.specs.CaseLaws.{cycle-after, step-is, number-word, number-block, run-none, run-next}
+use Rattle.vram.specs.CaseLaws.{cycle-after, step-is, number-first, refusal-word, refusal-block, run-none, run-next}
 use Rattle.vram.specs.Calls.{Outcome, cycleCall}
 use Rattle.list.specs.declared.Head.{Head}
 use Rattle.list.specs.declared.Head.the-variants.{Waits, Wrong, Whole}
@@ -29,7 +28,7 @@ use Rattle.list.specs.HeadLaws.{Says, head-says}
 use Rattle.list.specs.Meaning.{cyclesOf}
 use Rattle.pencil.specs.Bits.{bitsLeft}
 use Rattle.pencil.specs.Memory.{wordWritten, blockWritten}
-use Rattle.pencil.specs.Pencil.{pencil}
+use Rattle.pencil.specs.Pencil.{writeNumber, pencil}
 use Rattle.pencil.specs.EngineLaws.{pencil-effect}
 
 -- ---- a column of a block
@@ -50,10 +49,10 @@ module _ (m : List ℕ) (base colour columns mask strobes : ℕ) where
 
 -- ---- a write that is not refused lies in the memory
 
-pub write-placed : (n g words row column masking mask strobes : ℕ) → n ≡ firstOf g (writeRefusal (words / 512) row column masking mask strobes) → n ≡ 0
+pub write-placed : (n : ℕ) (s : Vram) (words serial row column masking mask strobes : ℕ) → n ≡ writeNumber s words serial row column masking mask strobes → n ≡ 0
     → Placed (words / 512) row column
-write-placed n g words row column masking mask strobes e z =
-    write-zero (words / 512) row column masking mask strobes (firstOf-zero g _ (sym e ∙ z) .1)
+write-placed n s words serial row column masking mask strobes e z =
+    write-zero (words / 512) row column masking mask strobes (firstOf-zero (given s words serial) _ (sym e ∙ z) .1)
 
 -- ---- a cycle: a write leaves what it leaves of the memory
 
@@ -69,22 +68,24 @@ module _ (s : Vram) (m r : List ℕ) where
       go true = refl
       go false = refl
 
-  module _ (row column word masking mask strobes : ℕ) (left : List ℕ) where
+  module _ (row column masking mask strobes : ℕ) (left : List ℕ) where
     abbrev refused : ℕ
-    refused = firstOf (given s (length m) (length r)) (writeRefusal (length m / 512) row column masking mask strobes)
+    refused = writeNumber s (length m) (length r) row column masking mask strobes
 
-    pub word-step : left ≡ leaves refused m (wordWritten m (512 * row + column) word (inForce s masking mask) strobes)
+    pub word-step : (word : ℕ) → left ≡ leaves refused m (wordWritten m (512 * row + column) word (inForce s masking mask) strobes)
         → board s left r ≡ stepBy pencil (WordWrite row column word masking mask strobes) (board s m r)
     unfolding pencil
-    word-step =
-        write-step (WordWrite row column word masking mask strobes) refused _ (number-word row column word masking mask strobes (board s m r)) refl left
+    word-step word =
+        let c = WordWrite row column word masking mask strobes in
+        write-step c refused _ (number-first c (board s m r) ∙ ap (firstOf (givenOf (board s m r))) (refusal-word _ _ row column word masking mask strobes)) refl left
 
-    -- `word` is its column mask
-    pub block-step : left ≡ leaves refused m (blockWritten m (512 * row + 4 * (column / 4)) (s .colour) word (inForce s masking mask) strobes 4)
-        → board s left r ≡ stepBy pencil (BlockWrite row column word masking mask strobes) (board s m r)
+    pub block-step : (columns : ℕ)
+        → left ≡ leaves refused m (blockWritten m (512 * row + 4 * (column / 4)) (s .colour) columns (inForce s masking mask) strobes 4)
+        → board s left r ≡ stepBy pencil (BlockWrite row column columns masking mask strobes) (board s m r)
     unfolding pencil
-    block-step =
-        write-step (BlockWrite row column word masking mask strobes) refused _ (number-block row column word masking mask strobes (board s m r)) refl left
+    block-step columns =
+        let c = BlockWrite row column columns masking mask strobes in
+        write-step c refused _ (number-first c (board s m r) ∙ ap (firstOf (givenOf (board s m r))) (refusal-block _ _ row column columns masking mask strobes)) refl left
 
 -- any other cycle is `vram`'s: what that leaves is what the plain engine does
 pub other-step : (c : Cycle) (b : Board) (o : Outcome) → o ≡ cycleCall c b → o .after ≡ stepBy pencil c b
@@ -100,11 +101,14 @@ module _ (s : List ℕ) (head : Head) (e : head ≡ headOf s) where
   says h f = subst (Says s) (sym e ∙ f) (head-says s)
 
   -- no whole field: the list is over
+  over : cyclesOf s ≡ [] → (b : Board) → b ≡ runs (cyclesOf s) b
+  over f b = sym (ap (λ (l : List Cycle). runs l b) f ∙ run-none (stepBy pencil) b)
+
   pub over-waits : head ≡ Waits → (b : Board) → b ≡ runs (cyclesOf s) b
-  over-waits f b = sym (ap (λ (l : List Cycle). runs l b) (says Waits f) ∙ run-none (stepBy pencil) b)
+  over-waits f = over (says Waits f)
 
   pub over-wrong : head ≡ Wrong → (b : Board) → b ≡ runs (cyclesOf s) b
-  over-wrong f b = sym (ap (λ (l : List Cycle). runs l b) (says Wrong f) ∙ run-none (stepBy pencil) b)
+  over-wrong f = over (says Wrong f)
 
   -- a whole field: its cycle is run, and the bytes after it are left
   module _ (cycle : Cycle) (size : ℕ) (f : head ≡ Whole cycle size) where

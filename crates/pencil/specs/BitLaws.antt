@@ -7,7 +7,7 @@ use native.Mathlib.Omega.{arith}
 use native.Mathlib.Numerals.{add-one}
 use lib.Dec.{eqb, ltb}
 use borrow.Author.Tests.{eqb-true, eqb-false, lt-ltb, le-ltb, ltb-true, ltb-false}
-use Rattle.words.specs.Bit.{bit, ofBits}
+use Rattle.words.specs.Bit.{bit}
 use Rattle.words.specs.BitLaws.{of-bits, bit-ofBits, ofBits-lt}
 use Rattle.words.specs.Word.{merged, covers, lets}
 use Rattle.words.specs.WordLaws.{merged-is}

@@ -13,7 +13,7 @@ use Rattle.vram.specs.Memory.{put, puts}
 use Rattle.vram.specs.MemoryLaws.{put-is, puts-none, puts-next}
 use Rattle.vram.specs.Board.{Board, board, inForce, allowed, effect}
 use Rattle.vram.specs.CaseLaws.{effect-word, effect-block}
-use Rattle.pencil.specs.Bits.{written, bitsLeft}
+use Rattle.pencil.specs.Bits.{bitsLeft}
 use Rattle.pencil.specs.BitLaws.{written-merged, left-bit}
 use Rattle.pencil.specs.Memory.{wordWritten, blockWritten}
 use Rattle.pencil.specs.Pencil.{pencil}

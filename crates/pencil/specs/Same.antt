@@ -11,8 +11,9 @@ use Rattle.marks.specs.CallLaws.{marked-same}
 use Rattle.pencil.specs.Calls.{runCall as pencilRun, markedCall as pencilMarked}
 use Rattle.pencil.specs.EngineLaws.{pencil-effect}
 
--- on every state, memory, serial register, marks and list: number and place, the state, and all that is lent, whether the list is refused
--- or not
+-- `pencilRun` and `runCall` are the contracts of `pencil::run` and `list::run`, `pencilMarked` and `markedCall` those of `pencil::run_marked`
+-- and `marks::run`. On every state, memory, serial register, marks and list they give the same number, place and state and leave the same
+-- in all that is lent, whether the list is refused or not
 pub engines-same : (state : Vram) (memory serial marks list : List ℕ)
     → (pencilRun list (board state memory serial) ≡ runCall list (board state memory serial))
     × (pencilMarked list (board state memory serial) marks ≡ markedCall list (board state memory serial) marks)

@@ -1,34 +1,21 @@
 // A cycle on the plain engine, refused or done. The writes are its own; all else is `vram`'s, by its one call.
 ghost use mathlib.Core.Path.{_≡_};
-ghost use mathlib.Core.Bool.{cond};
 ghost use Prim.Native.Nat.{_+_, _*_, _/_};
-ghost use lib.Dec.{eqb};
 ghost use lib.ListN.{length};
-ghost use Rattle.numbers.specs.Refuse.{firstOf, leaves};
-ghost use Rattle.refusals.specs.Refusal.{writeRefusal};
+ghost use Rattle.numbers.specs.Refuse.{leaves};
 ghost use Rattle.vram.specs.Board.{board, inForce};
-ghost use Rattle.vram.specs.Refusal.{given};
 ghost use Rattle.vram.specs.Step.{stepBy};
 ghost use Rattle.pencil.specs.Memory.{wordWritten, blockWritten};
-ghost use Rattle.pencil.specs.Pencil.{pencil};
+ghost use Rattle.pencil.specs.Pencil.{writeNumber, pencil};
 use crate::block::write_block;
+use crate::word::in_force;
 use crate::word::write_word;
 use numbers::refuse;
 use refusals::write_refusal;
 use vram::Cycle;
 use vram::Vram;
 
-// "The mask in force is all ones for plain. For masked it is the mask register when persistent, else the mask given with the cycle."
-fn in_force(masking: u8, persistent: bool, register: u16, given: u16) -> u16
-    ensures { λ r. ⌜ r ≡ cond (eqb masking 0) 65535 (cond persistent register given) ⌝ }
-{
-    if masking == 0 {
-        return 0xFFFF;
-    }
-    if persistent { register } else { given }
-}
-
-// What refuses a write: 1 to 3, then 5 to 8.
+// What refuses a write: 1 to 3, then 5 to 8. A list has been checked before it runs; so judged, a write requires nothing of its caller.
 fn write_number(
     state: Vram,
     words: usize,
@@ -39,7 +26,7 @@ fn write_number(
     mask: u16,
     strobes: u8,
 ) -> u32
-    ensures { λ r. ⌜ r ≡ firstOf (given state words «serial_words») (writeRefusal (words / 512) row column masking mask strobes) ⌝ }
+    ensures { λ r. ⌜ r ≡ writeNumber state words «serial_words» row column masking mask strobes ⌝ }
 {
     let n = state.given(words, serial_words);
     let own = write_refusal(words / 512, row, column, masking, mask, strobes);
@@ -58,7 +45,7 @@ fn word_write(
     mask: u16,
     strobes: u8,
 )
-    ensures { λ r. ⌜ now (memory .exit) ≡ leaves (firstOf (given state (length (now (memory .entry))) «serial_words») (writeRefusal (length (now (memory .entry)) / 512) row column masking mask strobes)) (now (memory .entry)) (wordWritten (now (memory .entry)) (512 * row + column) word (inForce state masking mask) strobes) ⌝ }
+    ensures { λ r. ⌜ now (memory .exit) ≡ leaves (writeNumber state (length (now (memory .entry))) «serial_words» row column masking mask strobes) (now (memory .entry)) (wordWritten (now (memory .entry)) (512 * row + column) word (inForce state masking mask) strobes) ⌝ }
 {
     let n = write_number(
         state,
@@ -74,8 +61,13 @@ fn word_write(
         return;
     }
     let at = 512 * (row as usize) + column as usize;
-    let force = in_force(masking, state.persistent, state.mask, mask);
-    write_word(memory, at, word, force, strobes);
+    write_word(
+        memory,
+        at,
+        word,
+        in_force(masking, state.persistent, state.mask, mask),
+        strobes,
+    );
 }
 
 // A block write: "A block write ignores the two low column bits." Its four words take the colour register's bits.
@@ -90,7 +82,7 @@ fn block_write(
     mask: u16,
     strobes: u8,
 )
-    ensures { λ r. ⌜ now (memory .exit) ≡ leaves (firstOf (given state (length (now (memory .entry))) «serial_words») (writeRefusal (length (now (memory .entry)) / 512) row column masking mask strobes)) (now (memory .entry)) (blockWritten (now (memory .entry)) (512 * row + 4 * (column / 4)) (state .colour) columns (inForce state masking mask) strobes 4) ⌝ }
+    ensures { λ r. ⌜ now (memory .exit) ≡ leaves (writeNumber state (length (now (memory .entry))) «serial_words» row column masking mask strobes) (now (memory .entry)) (blockWritten (now (memory .entry)) (512 * row + 4 * (column / 4)) (state .colour) columns (inForce state masking mask) strobes 4) ⌝ }
 {
     let n = write_number(
         state,

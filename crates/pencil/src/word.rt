@@ -1,13 +1,24 @@
-// A word write, bit by bit.
+// A word write: the mask in force, and the word bit by bit.
 ghost use mathlib.Core.Path.{_≡_};
 ghost use Prim.Native.Nat.{_<_};
 ghost use lib.ListN.{length};
 ghost use Rattle.words.specs.Bit.{bit};
+ghost use Rattle.vram.specs.Board.{force};
 ghost use Rattle.pencil.specs.Bits.{withBit, takes, written};
 ghost use Rattle.pencil.specs.Memory.{wordWritten};
 use crate::bits::has;
 use crate::bits::strobed;
 use crate::bits::with_bit;
+
+// "The mask in force is all ones for plain. For masked it is the mask register when persistent, else the mask given with the cycle."
+pub fn in_force(masking: u8, persistent: bool, register: u16, given: u16) -> u16
+    ensures { λ r. ⌜ r ≡ force masking persistent register given ⌝ }
+{
+    if masking == 0 {
+        return 0xFFFF;
+    }
+    if persistent { register } else { given }
+}
 
 // "A bit of the word takes the data bit exactly where strobe and mask in force allow it." Elsewhere it stays.
 fn write_bit(old: u16, new: u16, mask: u16, strobes: u8, b: u16) -> u16

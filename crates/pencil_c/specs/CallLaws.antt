@@ -4,16 +4,16 @@ use mathlib.Core.List.{List}
 use Prim.Native.Nat.{ℕ}
 use Rattle.registers.specs.declared.Registers.{Registers}
 use Rattle.registers.specs.Lists.{Listed}
-use Rattle.registers.specs.ListLaws.{list-plain}
+use Rattle.registers.specs.ListLaws.{lists-same, list-plain}
 use Rattle.marks_c.specs.Calls.{Listed as ListedMarked}
-use Rattle.marks_c.specs.CallLaws.{marked-plain}
+use Rattle.marks_c.specs.CallLaws.{marks-same, marked-plain}
+use Rattle.pencil.specs.EngineLaws.{pencil-effect}
 use Rattle.pencil_c.specs.Calls.{pencilCall, pencilMarkedCall}
-use Rattle.pencil_c.specs.Same.{exports-same}
 
 module _ (s : Registers) (e : s .persistent ≡ 0) where
   pub pencil-plain : (m q list : List ℕ) → pencilCall s m q list .answer .state .persistent ≡ 0
-  pencil-plain m q list = ap (λ (o : Listed). o .answer .state .persistent) (exports-same s m q list list .0) ∙ list-plain s e m q list
+  pencil-plain m q list = ap (λ (o : Listed). o .answer .state .persistent) (lists-same pencil-effect s m q list) ∙ list-plain s e m q list
 
   pub pencil-marked-plain : (m q marks list : List ℕ) → pencilMarkedCall s m q marks list .answer .state .persistent ≡ 0
   pencil-marked-plain m q marks list =
-      ap (λ (o : ListedMarked). o .answer .state .persistent) (exports-same s m q marks list .1) ∙ marked-plain s e m q marks list
+      ap (λ (o : ListedMarked). o .answer .state .persistent) (marks-same pencil-effect s m q marks list) ∙ marked-plain s e m q marks list

@@ -18,7 +18,7 @@ use Rattle.registers.specs.declared.Registers.{Registers}
 use Rattle.registers.specs.declared.Ran.{Ran}
 use Rattle.registers.specs.State.{lawful, taken, handed, handedRan, excludedRan}
 use Rattle.registers.specs.StateLaws.{handed-taken, taking-excluded, taking-done, taking-handed, taking-either, taking-same, handed-plain, taking-plain, other-length}
-use Rattle.registers.specs.Lists.{Listed, listed, listAnswer, listCallBy}
+use Rattle.registers.specs.Lists.{Listed, listed, listAnswer, listCallBy, listCall}
 
 module _ (e : Engine) where
   abbrev below : List ℕ → List ℕ → List ℕ → Vram → Listed
@@ -78,7 +78,7 @@ lists-same {e} {f} h s m q list =
 
 -- ---- no list, accepted or refused, makes a mask persistent that was not
 
-pub list-plain : (s : Registers) → s .persistent ≡ 0 → (m q list : List ℕ) → listCallBy effect s m q list .answer .state .persistent ≡ 0
+pub list-plain : (s : Registers) → s .persistent ≡ 0 → (m q list : List ℕ) → listCall s m q list .answer .state .persistent ≡ 0
 unfolding listCallBy
 list-plain s e m q list =
     taking-plain (below effect m q list) _ (λ (o : Listed). o .answer .state) s e

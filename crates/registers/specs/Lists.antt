@@ -2,7 +2,7 @@
 -- where no `Vram` can be so. Assumes nothing.
 use Prim.Native.Nat.{ℕ}
 use mathlib.Core.List.{List}
-use Rattle.vram.specs.Board.{board}
+use Rattle.vram.specs.Board.{board, effect}
 use Rattle.vram.specs.Step.{Engine}
 use Rattle.list.specs.Meaning.{Outcome, runCallBy}
 use Rattle.registers.specs.declared.Registers.{Registers}
@@ -24,3 +24,7 @@ listAnswer o =
 unfoldable pub listCallBy : Engine → Registers → List ℕ → List ℕ → List ℕ → Listed
 listCallBy e s m q list =
     taking s (λ v. listAnswer (runCallBy e list (board v m q))) (listed (excludedRan s) m q)
+
+-- by the engine of the rules
+abbrev pub listCall : Registers → List ℕ → List ℕ → List ℕ → Listed
+listCall = listCallBy effect

@@ -4,3 +4,5 @@
 pub mod Session
 -- what they leave of persistence, and a fill or a page after them
 pub mod AfterCalls
+-- the exports of the two engines have the same contracts
+pub mod Alike

@@ -3,9 +3,10 @@ use Prim.Native.Nat.{ℕ}
 use mathlib.Core.List.{List, [], _∷_}
 use Rattle.palette.specs.declared.Palette.{Palette}
 use Rattle.registers.specs.declared.Registers.{Registers}
+use Rattle.registers.specs.Lists.{listCall}
 use Rattle.marks_c.specs.Calls.{markedCall}
 use Rattle.pencil_c.specs.Calls.{pencilCall, pencilMarkedCall}
-use Rattle.host.specs.Calls.{listCall, clockCall, panelCallBy}
+use Rattle.host.specs.Calls.{clockCall, panelCallBy}
 
 -- each with all that it is given and lent beside the state: of what the call before left nothing is asked
 pub data Call : Type 0 where

@@ -23,8 +23,12 @@ abbrev pub board : Vram → List ℕ → List ℕ → Board
 board s m r = record { state = s; memory = m; serial = r }
 
 -- all ones for plain; for masked the mask register when persistent, else the mask given with the cycle
+abbrev pub force : ℕ → Bool → ℕ → ℕ → ℕ
+force masking persistent register given = cond (eqb masking 0) 65535 (cond persistent register given)
+
+-- the mask in force of a cycle on a state
 abbrev pub inForce : Vram → ℕ → ℕ → ℕ
-inForce s masking mask = cond (eqb masking 0) 65535 (cond (s .persistent) (s .mask) mask)
+inForce s masking mask = force masking (s .persistent) (s .mask) mask
 
 -- strobes and mask in force allow bit b
 abbrev pub allowed : Vram → ℕ → ℕ → ℕ → ℕ → Bool

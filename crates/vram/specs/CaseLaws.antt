@@ -72,23 +72,14 @@ step-rows c b = ap (λ (n : ℕ). n / 512) (step-sized c b .memory)
 pub run-rows : (l : List Cycle) (b : Board) → rowsOf (run l b) ≡ rowsOf b
 run-rows l b = ap (λ (n : ℕ). n / 512) (run-sized l b .memory)
 
--- ---- where the state and the lengths are as they should be, a cycle's number is its refusal
+-- ---- a cycle's number: 1 to 3, and where the state and the lengths are as they should be its refusal
+
+pub number-first : (c : Cycle) (b : Board) → number c b ≡ firstOf (givenOf b) (refusal (rowsOf b) (b .state .loaded) c)
+unfolding number
+number-first c b = refl
 
 pub number-is : (c : Cycle) (b : Board) → givenOf b ≡ 0 → number c b ≡ refusal (rowsOf b) (b .state .loaded) c
-unfolding number
-number-is c b g = firstOf-later (givenOf b) (refusal (rowsOf b) (b .state .loaded) c) g
-
--- ---- a write's number: 1 to 3, then 5 to 8
-
-pub number-word : (row column word masking mask strobes : ℕ) (b : Board)
-    → number (WordWrite row column word masking mask strobes) b ≡ firstOf (givenOf b) (writeRefusal (rowsOf b) row column masking mask strobes)
-unfolding number refusal
-number-word row column word masking mask strobes b = refl
-
-pub number-block : (row column columns masking mask strobes : ℕ) (b : Board)
-    → number (BlockWrite row column columns masking mask strobes) b ≡ firstOf (givenOf b) (writeRefusal (rowsOf b) row column masking mask strobes)
-unfolding number refusal
-number-block row column columns masking mask strobes b = refl
+number-is c b g = number-first c b ∙ firstOf-later (givenOf b) (refusal (rowsOf b) (b .state .loaded) c) g
 
 -- ---- the refusal of each kind of cycle
 

@@ -1,6 +1,11 @@
 -- `list::run` meets its contract. Assumes nothing.
-use Rattle.vram.specs.Board.{board}
-use Rattle.list.proofs.Outs.{given-out, refused-out, accepted-list, done-out}
+use mathlib.Core.Path.{sym, ap, _∙_}
+use Rattle.vram.specs.Board.{board, effect}
+use Rattle.list.specs.declared.Bad.{Bad}
+use Rattle.list.specs.declared.Open.the-variants.{None}
+use Rattle.list.specs.Meaning.{gives}
+use Rattle.list.specs.CallLaws.{judged-readable}
+use Rattle.list.specs.OutLaws.{given-out, refused-out, done-out, checked-out}
 use borrow.Author.Needs.{needs}
 use Rattle.list.proofs.run.Statement.{statement}
 use Rattle.list.proofs.run.Tie as tie
@@ -10,8 +15,9 @@ given-requires c κs = search needs
 
 returns : tie.Need-returns
 returns c =
-    let a = c .before .before .before .before .before .args in
-    given-out (a .list .now) (board (a .state) (a .memory .now) (a .serial .now)) (c .before .given .result) (c .before .given .ensures) (c .if1 .taken)
+    let g = c .before in
+    let a = g .before .before .before .before .args in
+    given-out effect (a .list .now) (board (a .state) (a .memory .now) (a .serial .now)) (g .given .result) (g .given .ensures) (c .if1 .taken)
 
 check-requires : tie.Need-check-requires
 check-requires c κs = search needs
@@ -21,15 +27,15 @@ returns-2 c =
     let k = c .before .before in
     let g = k .before .before in
     let a = g .before .before .before .before .args in
-    refused-out (a .list .now) (board (a .state) (a .memory .now) (a .serial .now)) (g .given .result) (g .given .ensures) (k .before .if1 .left) (k .check .result) (k .check .ensures) (c .if2 .taken)
+    let b = board (a .state) (a .memory .now) (a .serial .now) in
+    checked-out effect (a .list .now) b (g .given .result) (g .given .ensures) (k .before .if1 .left) (k .check .result) (k .check .ensures) (gives (k .check .result) b)
+    (refused-out effect (a .list .now) b (k .check .result) (c .if2 .taken))
 
 run-fields-requires : tie.Need-run-fields-requires
 run-fields-requires c κs =
     let e = c .before .before in
     let k = e .before .before in
-    let g = k .before .before in
-    let a = g .before .before .before .before .args in
-    accepted-list (a .list .now) (board (a .state) (a .memory .now) (a .serial .now)) (g .given .result) (g .given .ensures) (k .before .if1 .left) (k .check .result) (k .check .ensures) (e .if2 .left)
+    judged-readable _ _ None 0 _ (sym (ap (λ (v : Bad). v .number) (k .check .ensures)) ∙ e .if2 .left)
 
 same-length : tie.Need-same-length
 same-length c = search needs
@@ -44,8 +50,9 @@ returns-3 c =
     let k = e .before .before in
     let g = k .before .before in
     let a = g .before .before .before .before .args in
-    done-out (a .list .now) (board (a .state) (a .memory .now) (a .serial .now)) (g .given .result) (g .given .ensures) (k .before .if1 .left) (k .check .result) (k .check .ensures) (e .if2 .left)
-    _ (p .run-fields .ensures)
+    let b = board (a .state) (a .memory .now) (a .serial .now) in
+    checked-out effect (a .list .now) b (g .given .result) (g .given .ensures) (k .before .if1 .left) (k .check .result) (k .check .ensures) (gives (k .check .result) _)
+    (done-out effect (a .list .now) b (k .check .result) (e .if2 .left) _ (p .run-fields .ensures))
 
 pub run-spec : {M : Type 1} → statement M
 run-spec =

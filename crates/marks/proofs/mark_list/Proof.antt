@@ -1,5 +1,5 @@
 -- `marks::mark_list` meets its contract. Assumes nothing.
-use Rattle.marks.proofs.Outs.{length-out, unchecked-out, checked-list, checked-out}
+use Rattle.marks.proofs.Outs.{length-out, turned-down, checked-list, checked-out}
 use borrow.Author.Needs.{needs}
 use Rattle.marks.proofs.mark_list.Statement.{statement}
 use Rattle.marks.proofs.mark_list.Tie as tie
@@ -22,7 +22,7 @@ returns-2 c =
     let e = k .before in
     let l = e .before in
     let a = l .before .before .before .args in
-    unchecked-out (a .list .now) (a .rows) (a .loaded) (a .marks .now) (l .length-number .result) (l .length-number .ensures) (e .if1 .left) (k .check .result)
+    turned-down (a .list .now) (a .rows) (a .loaded) (a .marks .now) (l .length-number .result) (l .length-number .ensures) (e .if1 .left) (k .check .result)
     (k .check .ensures) (c .if2 .taken)
 
 mark-writes-requires : tie.Need-mark-writes-requires

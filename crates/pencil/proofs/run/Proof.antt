@@ -1,7 +1,8 @@
 -- `pencil::run` meets its contract. Assumes nothing.
 use Rattle.vram.specs.Board.{board}
 use Rattle.list.specs.Meaning.{outcome}
-use Rattle.pencil.proofs.Outs.{given-out, checked-out}
+use Rattle.list.specs.OutLaws.{given-out, checked-out}
+use Rattle.pencil.specs.Pencil.{pencil}
 use borrow.Author.Needs.{needs}
 use Rattle.pencil.proofs.run.Statement.{statement}
 use Rattle.pencil.proofs.run.Tie as tie
@@ -13,7 +14,7 @@ returns : tie.Need-returns
 returns c =
     let g = c .before in
     let a = g .before .before .before .before .args in
-    given-out (a .list .now) (board (a .state) (a .memory .now) (a .serial .now)) (g .given .result) (g .given .ensures) (c .if1 .taken)
+    given-out pencil (a .list .now) (board (a .state) (a .memory .now) (a .serial .now)) (g .given .result) (g .given .ensures) (c .if1 .taken)
 
 check-requires : tie.Need-check-requires
 check-requires c κs = search needs
@@ -34,7 +35,7 @@ returns-2 c =
     let e = k .before in
     let g = e .before in
     let a = g .before .before .before .before .args in
-    checked-out (a .list .now) (board (a .state) (a .memory .now) (a .serial .now)) (g .given .result) (g .given .ensures) (e .if1 .left) (k .check .result)
+    checked-out pencil (a .list .now) (board (a .state) (a .memory .now) (a .serial .now)) (g .given .result) (g .given .ensures) (e .if1 .left) (k .check .result)
     (k .check .ensures) (outcome (f .finish .result) (f .finish .last .1 .0) (f .finish .last .1 .1 .0)) (f .finish .ensures)
 
 pub run-spec : {M : Type 1} → statement M

@@ -5,7 +5,6 @@ use Prim.Native.Nat.{ℕ, _+_, _*_, _/_}
 use lib.ListN.{length}
 use Rattle.numbers.specs.RefuseLaws.{refused-is, done-is}
 use Rattle.refusals.specs.RefusalLaws.{block-within}
-use Rattle.vram.specs.Refusal.{given}
 use Rattle.pencil.specs.Memory.{blockWritten}
 use Rattle.pencil.proofs.Turns.{write-placed}
 use borrow.Author.Needs.{needs}
@@ -35,8 +34,8 @@ write-block-requires c κs =
     let e = c .before .before in
     let a = e .before .before .before .args in
     block-within (length (a .memory .now)) (a .row) (a .column)
-    (write-placed (e .before .write-number .result) (given (a .state) (length (a .memory .now)) (a .serial-words)) (length (a .memory .now)) (a .row) (a .column)
-    (a .masking) (a .mask) (a .strobes) (e .before .write-number .ensures) (e .if1 .left))
+    (write-placed (e .before .write-number .result) (a .state) (length (a .memory .now)) (a .serial-words) (a .row) (a .column) (a .masking)
+    (a .mask) (a .strobes) (e .before .write-number .ensures) (e .if1 .left))
 
 same-length : tie.Need-same-length
 same-length c = search needs

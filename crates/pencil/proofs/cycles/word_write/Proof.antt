@@ -5,7 +5,6 @@ use Prim.Native.Nat.{ℕ, _+_, _*_}
 use lib.ListN.{length}
 use Rattle.numbers.specs.RefuseLaws.{refused-is, done-is}
 use Rattle.refusals.specs.RefusalLaws.{word-within}
-use Rattle.vram.specs.Refusal.{given}
 use Rattle.pencil.specs.Memory.{wordWritten}
 use Rattle.pencil.proofs.Turns.{write-placed}
 use borrow.Author.Needs.{needs}
@@ -32,8 +31,8 @@ write-word-requires c κs =
     let e = c .before .before in
     let a = e .before .before .before .args in
     word-within (length (a .memory .now)) (a .row) (a .column)
-    (write-placed (e .before .write-number .result) (given (a .state) (length (a .memory .now)) (a .serial-words)) (length (a .memory .now)) (a .row) (a .column)
-    (a .masking) (a .mask) (a .strobes) (e .before .write-number .ensures) (e .if1 .left))
+    (write-placed (e .before .write-number .result) (a .state) (length (a .memory .now)) (a .serial-words) (a .row) (a .column) (a .masking)
+    (a .mask) (a .strobes) (e .before .write-number .ensures) (e .if1 .left))
 
 same-length : tie.Need-same-length
 same-length c = search needs
@@ -41,8 +40,8 @@ same-length c = search needs
 returns-2 : tie.Need-returns-2
 returns-2 c =
     let w = c .before .before in
-    let f = w .before .before in
-    let e = f .before in
+    let f = w .before in
+    let e = f .before .before in
     let a = e .before .before .before .args in
     done-is (λ _ (m : List ℕ). m) _ _ _ _ _ (e .before .write-number .ensures) (e .if1 .left)
     (w .write-word .ensures ∙ ap (λ (n : ℕ). wordWritten (a .memory .now) (512 * a .row + a .column) (a .word) n (a .strobes)) (f .in-force .ensures))

@@ -1,6 +1,5 @@
 -- `pencil::runs::run_fields` meets its contract: one turn of the loop is one cycle run. Assumes nothing.
 use mathlib.Core.Path.{_≡_, refl, _∙_}
-use native.Mathlib.Omega.{arith}
 use lib.ListN.{length}
 use Rattle.vram.specs.Board.{board}
 use Rattle.vram.specs.Step.{stepBy, runBy}

@@ -1,7 +1,7 @@
--- `pencil::cycles::in_force` meets its contract. Assumes nothing.
+-- `pencil::word::in_force` meets its contract. Assumes nothing.
 use borrow.Author.Tests.{eq-eqb, ne-eqb}
-use Rattle.pencil.proofs.cycles.in_force.Statement.{statement}
-use Rattle.pencil.proofs.cycles.in_force.Tie as tie
+use Rattle.pencil.proofs.word.in_force.Statement.{statement}
+use Rattle.pencil.proofs.word.in_force.Tie as tie
 
 returns : tie.Need-returns
 returns c = rw (eq-eqb _ _ (c .if1 .taken))
