@@ -453,7 +453,8 @@ linkshoar_ran linkshoar_list_run_marked(linkshoar_vram state, uint16_t *memory, 
  * On every input linkshoar_pencil_run answers and leaves what linkshoar_list_run does, and linkshoar_pencil_run_marked what
  * linkshoar_list_run_marked does; each may stand in for its fellow from list to list. To check a list, run it on one engine and, on copies of
  * state, memory, serial register and marks, on the other, and compare. What refuses a list is one piece of code for both. Refused as those
- * are. They are for the bench and not for the panel: a word write takes some four times as long, a block write some fifteen times. */
+ * are. They are for the bench and not for the panel: a word write takes three to four times as long, a block write ten to fifteen
+ * times. */
 linkshoar_ran linkshoar_pencil_run(linkshoar_vram state, uint16_t *memory, size_t words, uint16_t *serial, size_t serial_words,
                                    const uint8_t *list, size_t length);
 linkshoar_ran linkshoar_pencil_run_marked(linkshoar_vram state, uint16_t *memory, size_t words, uint16_t *serial, size_t serial_words,
