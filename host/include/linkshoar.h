@@ -1,15 +1,17 @@
 /* Linkshoar: a proved stand-in for one TMS55161 video RAM and one Am81C176 palette, a planner of shortest fills, marks of the rows that a
- * link must send, a second engine that can be followed with a pencil, and for the older boards the counters of an Am8150.
+ * link must send, a second engine that can be followed with a pencil, lists that come in pieces over a slow port, and for the older boards
+ * the counters of an Am8150.
  *
- * The caller holds the states and lends the memory; nothing is allocated, nothing is kept, and no call blocks. A state goes in by value
- * and the new one comes back in the answer: keep it, since the next call takes it. Every call takes every input: what it cannot do it
- * refuses with a number, and a refusal changes nothing that was lent, hands the state back as it came and answers zeros
- * besides, but for the place in a list or a page.
+ * The caller holds the states and lends the memory; nothing is allocated, nothing is kept, and no call blocks. A state goes in by value and
+ * the new one comes back in the answer: keep it, since the next call takes it. Every call takes every input: what it cannot do it refuses
+ * with a number, and a refusal changes nothing that was lent, hands the state back as it came and answers zeros besides, but for the place
+ * in a list or a page. One call differs on purpose: linkshoar_pieces_take draws a list while it comes, so a field that it refuses leaves
+ * the fields before it drawn (see "Lists in pieces").
  *
  * What C owes: lengths that are true, in words or bytes as the pointer's type is; slices that do not overlap. A state that no chip can have
  * is refused with 1: yes-or-no bytes in it are 0 or 1, and the structs below say what the others may be; a fresh state, and what calls that
- * are not refused make of it, is never such. A yes-or-no argument takes any number. Null with length 0 is a lawful empty slice; but a lent
- * linkshoar_palette * is never null, and it stands apart from the table.
+ * are not refused make of it, is never such; nor is what linkshoar_pieces_take hands back with a refused field. A yes-or-no argument takes
+ * any number. Null with length 0 is a lawful empty slice; but a lent linkshoar_palette * is never null, and it stands apart from the table.
  *
  * Answers are compared member by member: the bytes between the members of a struct are not determined.
  *
@@ -18,7 +20,7 @@
  *   serial   the serial register, 256 words: transfers copy half a row of the memory to it, clocks read it.
  *   table    the palette's 256 entries, 768 bytes: entry e has red at 3 * e, green at 3 * e + 1, blue at 3 * e + 2. The low six bits of
  *            a byte are read, 0 to 63. The caller may write it in place, or by linkshoar_palette_write as the chip is written.
- *   list     cycles as bytes: see "Lists" below.
+ *   list     cycles as bytes: see "Lists" below; a piece of one: see "Lists in pieces".
  *   marks    a mark for each of 512 rows, 64 bytes: see "Marks of rows" below.
  *   rectangles   a page's rectangles as bytes: see "Pages" below.
  */
@@ -32,7 +34,10 @@
 extern "C" {
 #endif
 
-/* Since 4.10.0 there is a second engine for lists, the plain one: linkshoar_pencil_run, linkshoar_pencil_run_marked. No program must change;
+/* Since 4.11.0 a list can be taken a piece at a time: linkshoar_pieces_fresh, linkshoar_pieces_take, linkshoar_pieces_end. No program must
+ * change; one that gathers a list from a slow port before it runs it may hand each piece on as it comes (see "Lists in pieces"), if it can
+ * bear that a refused list is drawn in part, and that it may leave the mask persistent.
+ * Since 4.10.0 there is a second engine for lists, the plain one: linkshoar_pencil_run, linkshoar_pencil_run_marked. No program must change;
  * where a row's mark is said to be set by a marked run, the marked run of either engine is meant.
  * Since 4.9.0 a list can be run with marks of rows: linkshoar_list_run_marked, linkshoar_marks_clear, linkshoar_marks_next, and number 18 is
  * new. No program must change; one whose link sends the whole screen after each list may send the marked rows alone (see "Marks of rows").
@@ -59,11 +64,11 @@ extern "C" {
  * program that fills both bytes with FFFF to show entry 255 fills them with 00FF.
  * Since 4.3.0 the two palette reads take the table, and after a read of blue the colour registers take the next entry and the address goes
  * up by one: a program that then reads the same entry again, writes colours or reads the address sets the address first. */
-#define LINKSHOAR_VERSION "4.10.0"
+#define LINKSHOAR_VERSION "4.11.0"
 
 /* The numbers given back. Where several apply the lowest is given; in a list the first bad field wins, then its lowest number, and 20 is
- * given only where no field is refused; in a page the first bad field wins over 13 and 15; 18 comes straight after 3, before 5 and before any
- * field. */
+ * given only where no field is refused; in a page the first bad field wins over 13 and 15; 18 comes straight after 3, before 5 and before
+ * any field. Of a list in pieces 20 is given by the last call alone, and 4 for a field that is then unfinished wins over it. */
 enum {
     LINKSHOAR_DONE = 0,
     LINKSHOAR_STATE_EXCLUDED = 1,
@@ -134,7 +139,8 @@ enum {
 /* The video RAM's registers. */
 typedef struct {
     uint16_t colour, mask; /* colour: what a block write paints; mask: in force for masked writes while it is persistent */
-    uint8_t persistent;    /* 1 from a mask load to a reset refresh; since 4.7.0 a list that loads the mask resets it: no call makes 1 of 0 */
+    uint8_t persistent;    /* 1 from a mask load to a reset refresh; since 4.7.0 a list that loads the mask resets it: no call makes 1 of 0,
+                              but for linkshoar_pieces_take, which may stop between the two */
     uint8_t loaded;        /* 1 once a full transfer has been made */
     uint8_t pointer;       /* the place in the serial register that the next clock reads */
     uint8_t waiting, tap;  /* waiting: 1 where a split transfer's tap waits for the end of the pointer's partition; else both are 0. A tap waits
@@ -150,6 +156,16 @@ typedef struct {
     uint8_t red, green, blue; /* 0 to 63 */
     uint8_t mask;             /* the pixel mask: a pixel is ANDed with it */
 } linkshoar_palette;
+
+/* Where a list that comes in pieces stands: between two pieces the caller keeps it, as it keeps the state. */
+typedef struct {
+    uint64_t left;    /* the offset of the mask load that is still open; 0 where none is */
+    uint32_t start;   /* the offset in the list of the unfinished field; of the field refused, where one was */
+    uint32_t number;  /* the number that the list was refused with; 0 where it was not */
+    uint8_t held[13]; /* the unfinished field's bytes, then zeros */
+    uint8_t count;    /* how many are held, 12 at most */
+    uint8_t open;     /* 1 where a mask load is still open, else 0 */
+} linkshoar_pieces;
 
 /* In every answer `number` is one of the numbers above, and `state` the state to go on with. */
 
@@ -169,6 +185,14 @@ typedef struct {
     uint64_t place; /* of 4 to 10, and 19: the offset of the field that is refused, in bytes from the list's first; of 20: of the last mask
                        load; else 0 */
 } linkshoar_ran;
+
+typedef struct {
+    linkshoar_vram state;
+    linkshoar_pieces pieces; /* to go on with, as the state is */
+    uint32_t number;
+    uint64_t place; /* of 4 to 10, and 19: the offset of the field that is refused, in bytes from the list's first, not the piece's; of 20:
+                       of the last mask load; else 0 */
+} linkshoar_taken;
 
 typedef struct {
     uint32_t number;
@@ -394,8 +418,8 @@ static inline size_t linkshoar_put_rectangle(uint8_t *at, uint16_t first_row, ui
  * or block write that names it has been run with these marks, by linkshoar_list_run_marked or linkshoar_pencil_run_marked, even if that
  * changed no bit. No other cycle marks a row, not even a transfer, which names one; a refused list marks none. So a row that is not marked
  * holds the words that it held at the clearing, as long as all drawing on that memory is done so, with these same marks: a host that writes
- * words in place draws too. A list without a word or block write may be run by linkshoar_list_run or linkshoar_pencil_run as well; clocks
- * and panel runs draw nothing.
+ * words in place draws too, and a list in pieces marks no row. A list without a word or block write may be run by linkshoar_list_run or
+ * linkshoar_pencil_run as well, or taken in pieces; clocks and panel runs draw nothing.
  *
  * The link copies the memory once and clears the marks, which clears bytes of any content; then, after any number of lists, this brings its
  * copy up to date, where nothing is drawn between the first line and the last (lists that only transfer rows may run there):
@@ -435,7 +459,8 @@ linkshoar_paged linkshoar_page(uint32_t rows, uint32_t persistent, const uint8_t
 
 /* Checks a list whole, then runs it in order; length: the list's bytes. A list with a mask load or a reset refresh, where it is not refused,
  * leaves the mask not persistent; any other leaves persistence as it was. So from a fresh state on no fill or page that is given the
- * state's own persistent is refused with 13, and the same holds with the three runs below. Refused with 1 to 10, 19, 20. */
+ * state's own persistent is refused with 13, and the same holds with the three runs below; not with lists in pieces. Refused with 1 to 10,
+ * 19, 20. */
 linkshoar_ran linkshoar_list_run(linkshoar_vram state, uint16_t *memory, size_t words, uint16_t *serial, size_t serial_words,
                                  const uint8_t *list, size_t length);
 
@@ -507,6 +532,60 @@ linkshoar_accessed linkshoar_palette_read(linkshoar_palette state, const uint8_t
 /* The same with the state lent: the new state is left there. The write answers the number. */
 uint32_t linkshoar_palette_write_lent(linkshoar_palette *state, uint8_t *table, size_t table_bytes, uint32_t select, uint8_t value);
 linkshoar_byte linkshoar_palette_read_lent(linkshoar_palette *state, const uint8_t *table, size_t table_bytes, uint32_t select);
+
+/* ---- Lists in pieces, for a slow port
+ *
+ * A list is taken a piece at a time, cut anywhere, also within a field, and each field runs when its last byte has come. Between two calls
+ * the caller keeps the state and the pieces: both come back in every answer, and both go into the next call. Nothing else is kept: the
+ * bytes of a piece may be overwritten once the call is back.
+ *
+ *   linkshoar_pieces pieces = linkshoar_pieces_fresh();
+ *   linkshoar_taken t;
+ *   while ((n = receive(port, bytes, sizeof bytes)) > 0) {
+ *       t = linkshoar_pieces_take(state, pieces, memory, words, serial, LINKSHOAR_SERIAL_WORDS, bytes, n);
+ *       state = t.state, pieces = t.pieces;
+ *   }
+ *   t = linkshoar_pieces_end(state, pieces, memory, words, serial, LINKSHOAR_SERIAL_WORDS);
+ *   state = t.state, pieces = t.pieces;
+ *   if (t.number)
+ *       complain(linkshoar_strerror(t.number), t.place);
+ *
+ * Where the sender says where a list ends, linkshoar_pieces_end is called there, and the same loop goes on with the next list.
+ *
+ * With no other call between, each lent what the one before left, the last call answers the number and the place that linkshoar_list_run
+ * would have answered for the whole list, however it was cut; and where that is 0 it leaves the same state, memory and serial register.
+ * What differs where it is not 0: the fields before the refused one stay drawn, with 20 all of them, and the state is the one that they
+ * left. So the mask may then be persistent, and a fill would be refused with 13: a list of one reset refresh puts that right, and
+ * brings partitions of 128 places back. A link that sends marked rows sends the whole screen after a list in pieces, since that marks no
+ * row.
+ *
+ * Other calls may stand between two pieces, as panel runs do while a list is slow to come: a field is judged on the state as it is when the
+ * field's last byte has come, and draws on that.
+ *
+ * A list has at most 4294967295 bytes, UINT32_MAX: one more is refused with 4, at the offset of its field.
+ *
+ * A linkshoar_pieces that is not as follows is refused with 1; a fresh one, and what calls make of it, always is. The bytes of held from
+ * count on are zeros. Where number is 0: count is at most 12; the bytes held are the start of a field and not the whole of it, so where
+ * there are three or more, tag and length are those of a field; start and count together are at most UINT32_MAX; open and left are 0, or
+ * open is 1 and left is below start. Where number is not 0 it is one of 4 to 10 or 19, and count, open and left are 0. */
+
+/* Before the first piece: all zeros. After linkshoar_pieces_end the pieces are so again. */
+linkshoar_pieces linkshoar_pieces_fresh(void);
+
+/* Takes a piece, of any length, also none. A field is judged when its last byte has come, as linkshoar_list_run judges it, and run; an
+ * unknown tag or a length that is not its tag's is refused as soon as the header's three bytes are there. An unfinished field is no
+ * refusal: its bytes are held. Once a field is refused, the rest of the piece and all later pieces draw nothing and get the same number and
+ * place, until linkshoar_pieces_end. Refused with 1 for the pieces; then with 1 to 3: then no byte of the piece is taken, and it may be
+ * given again; then with 4 to 10, 19. */
+linkshoar_taken linkshoar_pieces_take(linkshoar_vram state, linkshoar_pieces pieces, uint16_t *memory, size_t words, uint16_t *serial,
+                                      size_t serial_words, const uint8_t *piece, size_t length);
+
+/* The list is over: the refusal that a field has had; else 4 where a field is unfinished, with its offset; else 20 where a mask load is
+ * still open. In any of these cases, and where nothing is refused, the pieces come back fresh, and the next piece starts a new list. The
+ * state is as it came; memory and serial are only measured. Refused with 1 for the pieces; then with 1 to 3: then the list is not over, and
+ * the pieces come back as they were; then with 4 to 10, 19, 20. */
+linkshoar_taken linkshoar_pieces_end(linkshoar_vram state, linkshoar_pieces pieces, const uint16_t *memory, size_t words,
+                                     const uint16_t *serial, size_t serial_words);
 
 /* ---- The Am8150's counters, for the older boards
  *

@@ -211,6 +211,7 @@ void try_edges(void)
     page_edges();
     marks_edges();
     pencil_edges();
+    pieces_edges();
     panel_edges();
     every_word();
     every_part();

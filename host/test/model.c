@@ -65,7 +65,7 @@ static unsigned pair(const uint8_t *at)
     return 256u * at[0] + at[1];
 }
 
-static int body_bytes(int tag)
+int model_body_bytes(int tag)
 {
     switch (tag) {
     case 1: case 2: return 10;
@@ -115,7 +115,7 @@ model_field model_field_read(const uint8_t *f)
 /* What refuses the field at the start of these bytes. */
 static uint32_t field_number(const uint8_t *bytes, size_t left, size_t rows, int loaded)
 {
-    if (left < 3 || body_bytes(bytes[0]) < 0 || pair(bytes + 1) != (unsigned)body_bytes(bytes[0]) || left - 3 < pair(bytes + 1))
+    if (left < 3 || model_body_bytes(bytes[0]) < 0 || pair(bytes + 1) != (unsigned)model_body_bytes(bytes[0]) || left - 3 < pair(bytes + 1))
         return 4;
     model_field f = model_field_read(bytes);
     switch (f.tag) {
@@ -240,6 +240,14 @@ static void run_field(linkshoar_vram *s, uint16_t *memory, uint16_t *serial, mod
     }
 }
 
+uint32_t model_field_run(linkshoar_vram *s, uint16_t *memory, size_t words, uint16_t *serial, const uint8_t *field, size_t bytes)
+{
+    uint32_t number = field_number(field, bytes, words / 512, s->loaded);
+    if (!number)
+        run_field(s, memory, serial, model_field_read(field));
+    return number;
+}
+
 /* ---- the plain engine: change request M-105, by its words */
 
 /* A word write, bit by bit, through a mask that is taken as given. */
@@ -306,18 +314,22 @@ static size_t left_open(const uint8_t *list, size_t length)
     return FAULT == 39 ? length : open; /* never refused: the rule before M-111 */
 }
 
+uint32_t model_given(linkshoar_vram state, size_t words, size_t serial_words)
+{
+    if (!vram_allowed(state))
+        return 1;
+    if (!rows_fitted(words))
+        return 2;
+    return serial_words == 256 ? 0 : 3;
+}
+
 static linkshoar_ran list_run(engine *run, linkshoar_vram state, uint16_t *memory, size_t words, uint16_t *serial, size_t serial_words,
                               const uint8_t *list, size_t length)
 {
     linkshoar_ran r;
     memset(&r, 0, sizeof r);
     r.state = state;
-    if (!vram_allowed(state))
-        r.number = 1;
-    else if (!rows_fitted(words))
-        r.number = 2;
-    else if (serial_words != 256)
-        r.number = 3;
+    r.number = model_given(state, words, serial_words);
     if (r.number)
         return r;
     int loaded = state.loaded;

@@ -2,7 +2,7 @@
  * from the proved code. The test program compares the two. FAULT plants one error: 1 to 6 those that document 01 lists or that earlier
  * versions had, 7 to 17 the Am8150's, 18 to 20 those of a palette read, 21 to 24 those of reverse video, 25 to 29 those of parts of eight
  * bits, 30 to 38 those of stop points, 39 to 46 those of masks left behind, 47 to 55 those of a page, 56 to 68 those of marks of rows, 69 to
- * 78 those of the plain engine. Each must be found. */
+ * 78 those of the plain engine, 79 to 96 those of lists in pieces. Each must be found. */
 #ifndef MODEL_H
 #define MODEL_H
 
@@ -18,6 +18,10 @@ typedef struct {
 } model_field;
 
 model_field model_field_read(const uint8_t *field);
+int model_body_bytes(int tag); /* -1 where the tag is unknown */
+uint32_t model_given(linkshoar_vram state, size_t words, size_t serial_words); /* 1 to 3, or 0 */
+uint32_t model_field_run(linkshoar_vram *s, uint16_t *memory, size_t words, uint16_t *serial, const uint8_t *field,
+                         size_t bytes); /* the number that refuses the field at the start of these bytes; where it is 0 its cycle is done */
 linkshoar_vram model_vram_fresh(void);
 linkshoar_palette model_palette_fresh(void);
 linkshoar_filled model_fill(uint32_t rows, uint32_t first_row, uint32_t end_row, uint32_t first_column, uint32_t end_column, uint16_t mask,
@@ -41,6 +45,13 @@ linkshoar_shown model_panel_run_six(linkshoar_vram state, const uint16_t *serial
                                     const uint8_t *table, size_t table_bytes, uint32_t clocks, uint32_t blank, uint8_t *out, size_t out_bytes);
 linkshoar_accessed model_palette_write(linkshoar_palette state, uint8_t *table, size_t table_bytes, uint32_t select, uint8_t value);
 linkshoar_accessed model_palette_read(linkshoar_palette state, const uint8_t *table, size_t table_bytes, uint32_t select);
+
+/* model_pieces.c */
+linkshoar_pieces model_pieces_fresh(void);
+linkshoar_taken model_pieces_take(linkshoar_vram state, linkshoar_pieces pieces, uint16_t *memory, size_t words, uint16_t *serial,
+                                  size_t serial_words, const uint8_t *piece, size_t length);
+linkshoar_taken model_pieces_end(linkshoar_vram state, linkshoar_pieces pieces, const uint16_t *memory, size_t words,
+                                 const uint16_t *serial, size_t serial_words);
 
 /* model_controller.c */
 linkshoar_controller model_controller_fresh(void);

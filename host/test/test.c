@@ -170,9 +170,10 @@ static void try_fresh(void)
         differ("linkshoar_palette_fresh");
 }
 
-/* Fifteen, and one time in forty one of the last three, which are ten to forty calls each. */
+/* Fifteen, and one time in twenty-four one of the last five, which are ten to forty calls each. */
 static void (*const tries[])(void) = {try_fill, try_page, try_read, try_clock, try_panel, try_palette, try_palette, try_lent, try_list,
-                                      try_list, try_list, try_pencil, try_pencil, try_marks, try_marks, try_link, try_controller, try_frame};
+                                      try_list, try_list, try_pencil, try_pencil, try_marks, try_marks, try_link, try_controller, try_frame,
+                                      try_pieces, try_cutting};
 
 int main(int argc, char **argv)
 {
@@ -186,7 +187,7 @@ int main(int argc, char **argv)
     try_edges();
     try_saved();
     while (calls < most || (seconds > 0 && difftime(time(NULL), began) < seconds)) {
-        tries[chance(40) ? 15 + below(3) : below(15)]();
+        tries[chance(24) ? 15 + below(5) : below(15)]();
         if (chance(2000))
             same_all();
     }

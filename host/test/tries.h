@@ -12,6 +12,10 @@ void try_link(void);       /* marks.c: a link that sends the marked rows alone, 
 void marks_edges(void);    /* marks.c: every row marked alone, every length about 64, every pair of refusals */
 void try_pencil(void);     /* pencil.c: a list on the plain engine, against the second implementation and against the fast engine */
 void pencil_edges(void);   /* pencil.c: every bit of a column mask in every column, with every strobe and mask; every length about the right one */
+void try_pieces(void);     /* pieces.c: lists in pieces, one after the other, also refused ones, with damaged calls between */
+void try_cutting(void);    /* pieces.c: a list cut at random, against the library's own whole-list call */
+void pieces_edges(void);   /* pieces.c: every tag cut in every place, held in part and near the last byte that a list may have; every member
+                              of the pieces at its edge and past it; every length about the right one */
 void try_edges(void);      /* edges.c: every slice of every call empty, one short and one long, a memory of 513 rows; every word shown, every
                               byte as each part at both widths; a field of every tag; every partition length, and a run from every place */
 void try_fields(void);     /* fields.c: the header's functions that write a field, against the second implementation's reading of it */

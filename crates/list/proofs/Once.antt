@@ -7,6 +7,9 @@ use Rattle.list.proofs.sized as sized
 use Rattle.list.proofs.head_of as head-of
 use Rattle.list.proofs.check as check
 use Rattle.list.proofs.run as run
+use Rattle.list.proofs.fields.waits as waits
+use Rattle.list.proofs.left.opens as opens
+use Rattle.list.proofs.left.left_behind as left-behind
 
 pub number-at-once : Determines number-at.signature (λ M. number-at.clauses)
 number-at-once = by-result refl (λ κs a v w. refl)
@@ -28,3 +31,12 @@ run-once =
       (tt, (o .after .memory, (o .after .serial, (tt, tt)))),
     ))
     (λ κs a x. refl)
+
+pub waits-once : Determines waits.signature (λ M. waits.clauses)
+waits-once = by-result refl (λ κs a v w. refl)
+
+pub opens-once : Determines opens.signature (λ M. opens.clauses)
+opens-once = by-result refl (λ κs a v w. refl)
+
+pub left-behind-once : Determines left-behind.signature (λ M. left-behind.clauses)
+left-behind-once = by-result refl (λ κs a v w. refl)

@@ -43,6 +43,21 @@ module _ (s : List ℕ) where
       go false h true w = ap (headNumber rows made) (head-whole w) ∙ sym (number-whole s w rows made)
       go false h false w = ap (headNumber rows made) (head-wrong h w) ∙ sym (number-not s w rows made)
 
+-- ---- what a head tells of the bytes
+
+abbrev pub Told : List ℕ → Head → Type 0
+Told s Waits = waits s ≡ true
+Told s Wrong = (waits s ≡ false) × (whole s ≡ false)
+Told s (Whole cycle size) = (whole s ≡ true) × (cycle ≡ cycleOf (tag s) (body s)) × (size ≡ 3 + lenOf (tag s))
+
+pub head-told : (s : List ℕ) → Told s (headOf s)
+head-told s = go (waits s) refl (whole s) refl
+  where
+    go : (t : Bool) → waits s ≡ t → (u : Bool) → whole s ≡ u → Told s (headOf s)
+    go true h u w = subst (Told s) (sym (head-waits s h)) h
+    go false h true w = subst (Told s) (sym (head-whole s w)) (w, refl, refl)
+    go false h false w = subst (Told s) (sym (head-wrong s h w)) (h, w)
+
 -- ---- any bytes are walked by their heads, up to one that is no whole field
 
 -- what a head says of the cycles of the bytes

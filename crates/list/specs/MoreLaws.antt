@@ -22,7 +22,7 @@ use Rattle.list.specs.Waits.{waits}
 use Rattle.list.specs.WaitsLaws.{settled-whole}
 
 -- a refused field does not stand before the first
-place-least : (rows : ℕ) (made : Bool) (at : ℕ) (fs : List Field) → verdict rows made at fs .number ≢ 0 → at ≤ verdict rows made at fs .place
+pub place-least : (rows : ℕ) (made : Bool) (at : ℕ) (fs : List Field) → verdict rows made at fs .number ≢ 0 → at ≤ verdict rows made at fs .place
 place-least rows made at [] h = absurd (h (ap (λ (v : Bad). v .number) (verdict-nil rows made at)))
 place-least rows made at (f ∷ fs) h = go (eqb (numberOf rows made f) 0) refl (place-least rows (madeBy f made) (at + sizeOf f) fs)
   where

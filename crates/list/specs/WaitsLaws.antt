@@ -106,7 +106,7 @@ head-kept [] b t = refl
 head-kept (x ∷ s) b t = refl
 
 -- the byte that makes a field of waiting bytes is the field's last
-settled-length : (s : List ℕ) (b : ℕ) → waits s ≡ true → whole (s ++ b ∷ []) ≡ true → length (s ++ b ∷ []) ≡ 3 + lenOf (tag (s ++ b ∷ []))
+pub settled-length : (s : List ℕ) (b : ℕ) → waits s ≡ true → whole (s ++ b ∷ []) ≡ true → length (s ++ b ∷ []) ≡ 3 + lenOf (tag (s ++ b ∷ []))
 settled-length s b k w =
     let n = waits-less s (b ∷ []) k in
     let l = whole-length (s ++ b ∷ []) w in

@@ -66,7 +66,7 @@ pub(crate) fn whole(field: &[u8]) -> bool
 }
 
 // Whether more bytes may make a field of those at hand: no whole header, or a good one with less than its body.
-pub(crate) fn waits(field: &[u8]) -> bool
+pub fn waits(field: &[u8]) -> bool
     ensures { λ r. ⌜ r ≡ waits (now (field .entry)) ⌝ }
 {
     if field.len() < 3 {

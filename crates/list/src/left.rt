@@ -6,7 +6,7 @@ use crate::Bad;
 use crate::Open;
 
 // The open mask load after a field, by its tag: a mask load (4) is open from its offset on, a reset refresh (5) leaves none open.
-pub(crate) fn opens(tag: u8, at: u64, left: Open) -> Open
+pub fn opens(tag: u8, at: u64, left: Open) -> Open
     ensures { λ r. ⌜ r ≡ opens tag at left ⌝ }
 {
     match tag {
@@ -17,7 +17,7 @@ pub(crate) fn opens(tag: u8, at: u64, left: Open) -> Open
 }
 
 // 20 for an open mask load, at its offset.
-pub(crate) fn left_behind(left: Open) -> Bad
+pub fn left_behind(left: Open) -> Bad
     ensures { λ r. ⌜ r ≡ leftBehind left ⌝ }
 {
     match left {

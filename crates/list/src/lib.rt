@@ -10,8 +10,8 @@ ghost use Rattle.list.specs.Heads.{headOf};
 ghost use Rattle.list.specs.Meaning.{judged, outcome, runCall};
 
 mod checks;
-mod fields;
-mod left;
+pub mod fields;
+pub mod left;
 mod runs;
 
 use checks::field_number;

@@ -23,7 +23,11 @@ use Rattle.vram.specs.RuleLaws.{step-sized, run-sized, step-given}
 use Rattle.vram.specs.Calls.{cycleCall}
 use Rattle.vram.specs.Kinds.{tagOf, targetOf, names, loads, persists}
 
--- ---- a cycle's call leaves what a step leaves
+-- ---- a cycle's call answers its number, and leaves what a step leaves
+
+pub cycle-number : (c : Cycle) (b : Board) → cycleCall c b .given ≡ number c b
+unfolding cycleCall
+cycle-number c b = refl
 
 pub cycle-after : (c : Cycle) (b : Board) → cycleCall c b .after ≡ step c b
 unfolding cycleCall

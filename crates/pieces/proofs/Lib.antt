@@ -1,0 +1,2 @@
+-- What each public call owes.
+pub mod Once

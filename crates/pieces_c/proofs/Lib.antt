@@ -1,0 +1,2 @@
+-- What each export owes.
+pub mod Once

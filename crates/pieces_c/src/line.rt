@@ -1,0 +1,77 @@
+// Where a list stands, there and back.
+ghost use mathlib.Core.Path.{_≡_};
+ghost use Rattle.pieces_c.specs.Line.{lineLawful, takenLine, handedLine, handedTaken};
+use crate::Pieces;
+use crate::Taken;
+use list::Open;
+use registers::hand;
+
+// Whether a line can be so: open is 0 or 1, and there is no offset where no mask load is open.
+pub(crate) fn line_lawful(line: Pieces) -> bool
+    ensures { λ r. ⌜ r ≡ lineLawful line ⌝ }
+{
+    (line.open <= 1) & ((line.open == 1) | (line.left == 0))
+}
+
+// As `pieces` has it. Whoever calls this has asked `line_lawful`.
+pub(crate) fn take_line(line: Pieces) -> pieces::Pieces
+    ensures { λ r. ⌜ r ≡ takenLine line ⌝ }
+{
+    let held = line.held;
+    if line.open == 0 {
+        return pieces::Pieces {
+            held,
+            count: line.count,
+            start: line.start,
+            number: line.number,
+            left: Open::None,
+        };
+    }
+    pieces::Pieces {
+        held,
+        count: line.count,
+        start: line.start,
+        number: line.number,
+        left: Open::At(line.left),
+    }
+}
+
+// As C has it.
+pub(crate) fn hand_line(line: pieces::Pieces) -> Pieces
+    ensures { λ r. ⌜ r ≡ handedLine line ⌝ }
+{
+    let held = line.held;
+    let left = line.left;
+    match left {
+        Open::None => Pieces {
+            left: 0,
+            start: line.start,
+            number: line.number,
+            held,
+            count: line.count,
+            open: 0,
+        },
+        Open::At(place) => Pieces {
+            left: place,
+            start: line.start,
+            number: line.number,
+            held,
+            count: line.count,
+            open: 1,
+        },
+    }
+}
+
+// The answer of a piece and of the last call.
+pub(crate) fn hand_taken(taken: pieces::Taken) -> Taken
+    ensures { λ r. ⌜ r ≡ handedTaken taken ⌝ }
+{
+    let state = taken.state;
+    let line = taken.pieces;
+    Taken {
+        state: hand(state),
+        pieces: hand_line(line),
+        number: taken.number,
+        place: taken.place,
+    }
+}
