@@ -550,7 +550,9 @@ linkshoar_byte linkshoar_palette_read_lent(linkshoar_palette *state, const uint8
  *   if (t.number)
  *       complain(linkshoar_strerror(t.number), t.place);
  *
- * Where the sender says where a list ends, linkshoar_pieces_end is called there, and the same loop goes on with the next list.
+ * Where the sender says where a list ends, linkshoar_pieces_end is called there, and the same loop goes on with the next list. The loop need
+ * not look at a piece's number from 4 on: the last call says it again. But 1 to 3 say that the program's state or lengths are wrong, and
+ * that the piece was not taken: it is lost unless it is given again.
  *
  * With no other call between, each lent what the one before left, the last call answers the number and the place that linkshoar_list_run
  * would have answered for the whole list, however it was cut; and where that is 0 it leaves the same state, memory and serial register.
@@ -630,10 +632,10 @@ static inline const char *linkshoar_strerror(uint32_t number)
 {
     switch (number) {
     case LINKSHOAR_DONE: return "done";
-    case LINKSHOAR_STATE_EXCLUDED: return "a state that the rules exclude";
+    case LINKSHOAR_STATE_EXCLUDED: return "a state, or a held field, that the rules exclude";
     case LINKSHOAR_MEMORY_LENGTH: return "memory length or rows fitted not 1 to 512 rows";
     case LINKSHOAR_REGISTER_LENGTH: return "serial register not 256 words, or palette table not 768 bytes";
-    case LINKSHOAR_FIELD_UNREADABLE: return "unknown tag, wrong length or a field cut short";
+    case LINKSHOAR_FIELD_UNREADABLE: return "unknown tag, wrong length, a field cut short, or a list too long";
     case LINKSHOAR_ROW_NOT_FITTED: return "row not fitted, or a start row over 511";
     case LINKSHOAR_COLUMN_OVER: return "column over 511";
     case LINKSHOAR_STROBES_OTHER: return "strobes not 1 to 3";

@@ -2,8 +2,8 @@
 use mathlib.Core.Path.{_≡_, refl, sym, ap, ap₂, _∙_}
 use mathlib.Core.Bool.{Bool, true, false, _||_, cond, true≢false}
 use mathlib.Core.List.{List, [], _∷_, _++_, map}
-use mathlib.Core.Logic.{_≢_}
-use Prim.Native.Nat.{ℕ, _+_, _≤_}
+use mathlib.Core.Logic.{_≢_, _⊎_, inl, inr}
+use Prim.Native.Nat.{ℕ, _+_, _≤_, _<_}
 use native.Mathlib.Omega.{arith}
 use native.Mathlib.Nat.{add-assoc, add-zero}
 use lib.Dec.{eqb}
@@ -47,6 +47,20 @@ closed-example = simp (tag-mask 0x00FF 3, tag-colour 0x00FF 3, tag-reset)
 pub open-example : map (λ (fs : List Field). openAfter 0 fs None) still ≡ (At 0 ∷ At 0 ∷ At 6 ∷ At 6 ∷ At 3 ∷ At 9 ∷ [])
 unfolding openAfter openBy opens sizeOf
 open-example = simp (tag-mask 0x00FF 3, tag-colour 0x00FF 3, tag-reset)
+
+-- ---- a field
+
+-- it is the mask load that is open now, and has bytes; or it leaves none open; or what was open
+pub open-cases : (at : ℕ) (f : Field) (left : Open)
+    → ((openBy at f left ≡ At at) × (0 < sizeOf f)) ⊎ ((openBy at f left ≡ None) ⊎ (openBy at f left ≡ left))
+unfolding openBy opens sizeOf
+open-cases at (Reads c n) left = go (eqb (tagOf c) 4) (eqb (tagOf c) 5)
+  where
+    go : (t u : Bool) → ((cond t (At at) (cond u None left) ≡ At at) × (0 < 3 + n)) ⊎ ((cond t (At at) (cond u None left) ≡ None) ⊎ (cond t (At at) (cond u None left) ≡ left))
+    go true u = inl (refl, omega arith)
+    go false true = inr (inl refl)
+    go false false = inr (inr refl)
+open-cases at Unreadable left = inr (inr refl)
 
 -- ---- field by field
 

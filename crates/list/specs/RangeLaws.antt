@@ -26,7 +26,7 @@ use Rattle.list.specs.JudgeLaws.{left-none, left-at}
 use Rattle.list.specs.CountLaws.{sizes-all}
 use Rattle.list.specs.PerformLaws.{Passes}
 use Rattle.list.specs.CallLaws.{accepted-readable, verdict-given, verdict-fields, verdict-left}
-use Rattle.list.specs.VerdictLaws.{size-whole, number-range, verdict-nil, verdict-good, verdict-bad}
+use Rattle.list.specs.VerdictLaws.{size-whole, number-unreadable, number-range, verdict-nil, verdict-good, verdict-bad}
 
 -- ---- no number is over the highest
 
@@ -47,10 +47,6 @@ verdict-most rows made at (f ∷ fs) = go (eqb (numberOf rows made f) 0) refl (v
 
 -- ---- the place lies in the list
 
-four : (rows : ℕ) (made : Bool) → numberOf rows made Unreadable ≡ 4
-unfolding numberOf
-four rows made = refl
-
 -- if it does for what follows the first field
 module _ (rows : ℕ) (made : Bool) (at : ℕ) (s : List ℕ)
     (rest : whole s ≡ true → (m : Bool) (a : ℕ) → verdict rows m a (fields (drop (3 + lenOf (tag s)) s)) .place ≤ a + length (drop (3 + lenOf (tag s)) s)) where
@@ -66,7 +62,7 @@ module _ (rows : ℕ) (made : Bool) (at : ℕ) (s : List ℕ)
   some : 0 < length s → (t : Bool) → whole s ≡ t → verdict rows made at (fields s) .place ≤ at + length s
   some p true w = rw (fields-whole s w) (first w (eqb (numberOf rows made (fieldOf s)) 0) refl)
   some p false w =
-      let n : numberOf rows made Unreadable ≢ 0 = λ z. omega (arith, four rows made) in
+      let n : numberOf rows made Unreadable ≢ 0 = λ z. omega (arith, number-unreadable rows made) in
       rw (fields-not s p w, verdict-bad rows made at Unreadable [] n) (omega arith)
 
   place-first : (t : Bool) → eqb (length s) 0 ≡ t → verdict rows made at (fields s) .place ≤ at + length s

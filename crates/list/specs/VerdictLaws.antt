@@ -9,7 +9,9 @@ use lib.Dec.{eqb, ltb}
 use lib.ListN.{length, drop}
 use borrow.Author.Tests.{eq-eqb, ne-eqb, eqb-true, ltb-true, ltb-false}
 use Rattle.refusals.specs.Refusal.{refusing}
+use Rattle.vram.specs.declared.Cycle.{Cycle}
 use Rattle.vram.specs.Refusal.{refusal}
+use Rattle.vram.specs.Kinds.{loads}
 use Rattle.list.specs.declared.Bad.{Bad}
 use Rattle.vram.specs.CaseLaws.{refusal-range}
 use Rattle.list.specs.Tags.{lenOf, cycleOf}
@@ -17,6 +19,29 @@ use Rattle.list.specs.TagLaws.{cycle-loads}
 use Rattle.list.specs.Fields.{Field, Reads, Unreadable, tag, body, whole, fieldOf, sizeOf}
 use Rattle.list.specs.FieldLaws.{whole-known, field-whole, field-not, fields-nil, fields-whole, fields-not}
 use Rattle.list.specs.Meaning.{numberOf, madeBy, bad, verdict, cycles, cyclesOf}
+
+-- ---- a field, by its kind
+
+module _ (c : Cycle) (n : ℕ) where
+  pub number-reads : (rows : ℕ) (made : Bool) → numberOf rows made (Reads c n) ≡ refusal rows made c
+  unfolding numberOf
+  number-reads rows made = refl
+
+  pub made-reads : (made : Bool) → madeBy (Reads c n) made ≡ loads c made
+  unfolding madeBy
+  made-reads made = refl
+
+  pub cycles-reads : (fs : List Field) → cycles (Reads c n ∷ fs) ≡ c ∷ cycles fs
+  unfolding cycles
+  cycles-reads fs = refl
+
+pub number-unreadable : (rows : ℕ) (made : Bool) → numberOf rows made Unreadable ≡ 4
+unfolding numberOf
+number-unreadable rows made = refl
+
+pub cycles-none : cycles [] ≡ []
+unfolding cycles
+cycles-none = refl
 
 -- ---- a whole field
 

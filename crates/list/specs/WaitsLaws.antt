@@ -16,6 +16,11 @@ use Rattle.list.specs.FieldLaws.{whole-length, whole-headed, field-not, 
 use Rattle.list.specs.VerdictLaws.{size-whole}
 use Rattle.list.specs.Waits.{waits}
 
+-- no bytes wait for some
+pub waits-nil : waits [] ≡ true
+unfolding waits
+waits-nil = refl
+
 -- a whole field does not wait
 pub whole-settled : (s : List ℕ) → whole s ≡ true → waits s ≡ false
 unfolding waits

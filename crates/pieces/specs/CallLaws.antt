@@ -4,7 +4,6 @@ use mathlib.Core.Bool.{Bool, true, false}
 use mathlib.Core.List.{List}
 use mathlib.Core.Logic.{_≢_}
 use Prim.Native.Nat.{ℕ}
-use lib.ListN.{length}
 use Rattle.numbers.specs.Refuse.{refuse, leaves}
 use Rattle.numbers.specs.RefuseLaws.{refuse-zero, leaves-made, leaves-before}
 use Rattle.vram.specs.Board.{Board}
@@ -12,9 +11,9 @@ use Rattle.vram.specs.Step.{givenOf}
 use Rattle.list.specs.declared.Bad.{Bad}
 use Rattle.list.specs.Meaning.{bad}
 use Rattle.pieces.specs.declared.Pieces.{Pieces}
-use Rattle.pieces.specs.Line.{Line, fresh, Port, port, piece, soFar, atLast}
+use Rattle.pieces.specs.Line.{Line, fresh, port, piece, soFar, atLast}
 use Rattle.pieces.specs.Pieces.{pack, unpack, possible, sound}
-use Rattle.pieces.specs.PackLaws.{Sound, sound-is, made-sound, unpack-pack}
+use Rattle.pieces.specs.PackLaws.{made-sound, unpack-pack}
 use Rattle.pieces.specs.Calls.{Outcome, gives, firstNumber, unless, fed, takeCall, endCall}
 
 -- ---- before any byte

@@ -8,7 +8,7 @@ use Rattle.list.specs.declared.Bad.{Bad}
 use Rattle.list.specs.Meaning.{bad}
 use Rattle.pieces.specs.declared.Pieces.{Pieces}
 use Rattle.pieces.specs.declared.Taken.{Taken}
-use Rattle.pieces.specs.Line.{Line, fresh, Port, port, piece, soFar, atLast}
+use Rattle.pieces.specs.Line.{fresh, Port, port, piece, soFar, atLast}
 use Rattle.pieces.specs.Pieces.{pack, unpack, sound}
 
 -- number and place, what is kept of the list, and the board afterwards

@@ -1,9 +1,9 @@
 -- Pieces come to what the bytes come to that they join to. Assumes nothing.
 use mathlib.Core.Path.{_≡_, refl, sym, ap, ap₂, _∙_}
 use mathlib.Core.Bool.{Bool, true, false}
-use mathlib.Core.List.{List, [], _∷_, _++_, foldl, flatten, foldl-append, map}
+use mathlib.Core.List.{List, [], _∷_, flatten, foldl-append, map}
 use mathlib.Core.Logic.{_≢_}
-use Prim.Native.Nat.{ℕ, _+_, _≤_}
+use Prim.Native.Nat.{ℕ, _≤_}
 use native.Mathlib.Omega.{arith}
 use lib.Dec.{eqb}
 use lib.ListN.{length}
@@ -14,18 +14,29 @@ use Rattle.list.specs.declared.Bad.{Bad}
 use Rattle.list.specs.declared.Open.the-variants.{None}
 use Rattle.list.specs.Fields.{fields}
 use Rattle.list.specs.Meaning.{bad, cycles, verdictOf, Outcome as ListOutcome}
-use Rattle.list.specs.CallLaws.{verdict-given, verdict-judged}
-use Rattle.list.specs.Waits.{waits}
+use Rattle.list.specs.CallLaws.{verdict-judged}
+use Rattle.list.specs.WaitsLaws.{waits-nil}
 use Rattle.pieces.specs.declared.Pieces.{Pieces}
-use Rattle.pieces.specs.Line.{Line, line, fresh, Port, port, limit, feed, piece, soFar, atLast}
+use Rattle.pieces.specs.Line.{Line, line, fresh, Port, port, limit, feed, piece, atLast}
 use Rattle.pieces.specs.LineLaws.{so-far-none, refused-stays, last-kept}
 use Rattle.pieces.specs.Meant.{meant, passing, ended}
 use Rattle.pieces.specs.MeantLaws.{bytes-meant, meant-given, meant-after}
 use Rattle.pieces.specs.Pieces.{pack, possible}
-use Rattle.pieces.specs.KeepLaws.{fresh-possible, piece-possible, piece-given}
-use Rattle.pieces.specs.Calls.{Outcome, gives, fed, takeCall, endCall}
+use Rattle.pieces.specs.KeepLaws.{piece-possible, piece-given}
+use Rattle.pieces.specs.Calls.{Outcome, gives, takeCall, endCall}
 use Rattle.pieces.specs.CallLaws.{take-given, end-given, take-made, end-made}
-use Rattle.pieces.specs.Cutting.{answers, ends, cutAnswers, cutCall}
+use Rattle.pieces.specs.Cutting.{answers, ends}
+
+-- ---- piece by piece
+
+pub ends-none : (p : Pieces) (b : Board) → ends [] p b ≡ endCall p b
+unfolding ends
+ends-none p b = refl
+
+pub ends-next : (s : List ℕ) (ss : List (List ℕ)) (p : Pieces) (b : Board)
+    → (let o = takeCall p s b in ends (s ∷ ss) p b ≡ ends ss (o .pieces) (o .after))
+unfolding ends
+ends-next s ss p b = refl
 
 -- ---- the board is refused by 1 to 3: so is every call, and nothing changes
 
@@ -68,8 +79,7 @@ answers-zero (s ∷ ss) l h b g z =
 
 module _ (list : List ℕ) (fits : length list ≤ limit) (b : Board) (g : givenOf b ≡ 0) where
   pub new-meant : ended (piece (port fresh b) list) ≡ meant 0 (fields list) None b
-  unfolding waits
-  new-meant = bytes-meant list [] 0 None b refl (omega arith)
+  new-meant = bytes-meant list [] 0 None b waits-nil (omega arith)
 
   pub new-given : atLast (piece (port fresh b) list .line) ≡ verdictOf list b
   new-given = ap (λ (o : ListOutcome). o .given) new-meant ∙ meant-given (fields list) 0 None b g ∙ sym (verdict-judged list b g)

@@ -15,7 +15,7 @@ use Rattle.list.specs.Fields.{Field, fields}
 use Rattle.list.specs.Meaning.{bad, verdict, cycles, cyclesOf, verdictOf, runCall}
 use Rattle.list.specs.CallLaws.{verdict-given, verdict-fields, accepted-given, accepted-fields, accepted-zeros, call-runs}
 use Rattle.pieces.specs.declared.Pieces.{Pieces}
-use Rattle.pieces.specs.Line.{fresh, Port, port, limit, piece, atLast}
+use Rattle.pieces.specs.Line.{fresh, port, limit, piece, atLast}
 use Rattle.pieces.specs.Pieces.{pack}
 use Rattle.pieces.specs.KeepLaws.{fresh-possible}
 use Rattle.pieces.specs.MeantLaws.{all-pass}

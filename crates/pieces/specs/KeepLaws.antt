@@ -1,35 +1,34 @@
 -- What a byte makes of a line that pieces can make is one that they can make. Assumes nothing.
-use mathlib.Core.Path.{_≡_, refl, sym, ap, _∙_, subst}
-use mathlib.Core.Bool.{Bool, true, false, _||_, cond}
+use mathlib.Core.Path.{_≡_, refl, ap, _∙_}
+use mathlib.Core.Bool.{Bool, true, false, _||_}
 use mathlib.Core.List.{List, [], _∷_, _++_}
 use mathlib.Core.Logic.{_≢_, ⊎-elim}
-use Prim.Native.Nat.{ℕ, _+_, _≤_, _<_}
+use Prim.Native.Nat.{ℕ, _+_, _≤_}
 use native.Mathlib.Omega.{arith}
 use lib.Dec.{eqb, ltb}
 use lib.ListN.{length, length-append}
-use borrow.Author.Tests.{eqb-true, eqb-false, eq-eqb, ltb-true, ltb-false, lt-ltb}
+use borrow.Author.Tests.{eqb-true, eqb-false, ltb-true, ltb-false, lt-ltb}
 use Rattle.refusals.specs.Refusal.{refusing}
 use Rattle.vram.specs.Board.{Board}
 use Rattle.vram.specs.Step.{givenOf, rowsOf}
 use Rattle.vram.specs.RuleLaws.{step-given}
-use Rattle.vram.specs.Kinds.{tagOf}
 use Rattle.list.specs.declared.Open.{Open}
 use Rattle.list.specs.declared.Open.the-variants.{None, At}
-use Rattle.list.specs.Fields.{Field, Reads, Unreadable, whole, fieldOf, sizeOf}
-use Rattle.list.specs.Open.{opens, openBy}
+use Rattle.list.specs.Fields.{Field, Reads, Unreadable, fieldOf, sizeOf}
+use Rattle.list.specs.Open.{openBy}
+use Rattle.list.specs.OpenLaws.{open-cases}
 use Rattle.list.specs.VerdictLaws.{number-range, accepted-whole}
 use Rattle.list.specs.Waits.{waits}
-use Rattle.list.specs.WaitsLaws.{settled-fits}
-use Rattle.pieces.specs.Line.{Line, line, fresh, refused, Port, port, limit, numberOn, draws, met, come, feed, piece}
+use Rattle.list.specs.WaitsLaws.{waits-nil, settled-fits}
+use Rattle.pieces.specs.Line.{line, fresh, refused, Port, limit, numberOn, draws, met, come, feed, piece}
 use Rattle.pieces.specs.LineLaws.{met-run, met-refused, come-waits, come-settled, feed-refused, feed-in, feed-over}
 use Rattle.pieces.specs.Pieces.{before, possible}
-use Rattle.pieces.specs.PackLaws.{Going, possible-going, going-possible, stopped-possible}
+use Rattle.pieces.specs.PackLaws.{possible-going, going-possible, stopped-possible}
 
 -- ---- nothing held
 
 pub open-possible : (at : ℕ) (left : Open) → at ≤ limit → before left at ≡ true → possible (line [] at 0 left) ≡ true
-unfolding waits
-open-possible at left l e = going-possible (line [] at 0 left) refl (record { waiting = refl; fits = omega arith; earlier = e })
+open-possible at left l e = going-possible (line [] at 0 left) refl (record { waiting = waits-nil; fits = omega arith; earlier = e })
 
 pub fresh-possible : possible fresh ≡ true
 fresh-possible = open-possible 0 None (omega arith) refl
@@ -52,19 +51,11 @@ before-later : (left : Open) (at n : ℕ) → before left at ≡ true → before
 before-later None at n e = refl
 before-later (At place) at n e = let l = ltb-true place at e in lt-ltb place (at + n) (omega arith)
 
-opens-before : (tag at n : ℕ) (left : Open) → 0 < n → before left at ≡ true → before (opens tag at left) (at + n) ≡ true
-unfolding opens
-opens-before tag at n left p e = go (eqb tag 4) (eqb tag 5)
-  where
-    go : (t u : Bool) → before (cond t (At at) (cond u None left)) (at + n) ≡ true
-    go true u = lt-ltb at (at + n) (omega arith)
-    go false true = refl
-    go false false = before-later left at n e
-
 pub field-before : (at : ℕ) (f : Field) (left : Open) → before left at ≡ true → before (openBy at f left) (at + sizeOf f) ≡ true
-unfolding openBy sizeOf
-field-before at (Reads c n) left e = opens-before (tagOf c) at (3 + n) left (omega arith) e
-field-before at Unreadable left e = before-later left at 0 e
+field-before at f left e =
+    ⊎-elim (λ p. ap (λ (o : Open). before o (at + sizeOf f)) (p .0) ∙ lt-ltb at (at + sizeOf f) (omega (arith, p .1)))
+    (⊎-elim (λ p. ap (λ (o : Open). before o (at + sizeOf f)) p) (λ p. ap (λ (o : Open). before o (at + sizeOf f)) p ∙ before-later left at (sizeOf f) e))
+    (open-cases at f left)
 
 -- ---- one that ends within the limit
 

@@ -1,6 +1,6 @@
 -- A list that comes in pieces: change request M-109. The rule is said of one byte; a piece is its bytes in order. Assumes nothing.
 use Prim.Native.Nat.{ℕ, _+_}
-use mathlib.Core.Bool.{Bool, cond}
+use mathlib.Core.Bool.{cond}
 use mathlib.Core.List.{List, [], _∷_, _++_, foldl}
 use lib.Dec.{eqb, ltb}
 use lib.ListN.{length}

@@ -1,25 +1,20 @@
 -- Laws of bytes that come one after the other: what they come to is what the fields of them all come to. Assumes nothing.
 use mathlib.Core.Path.{_≡_, refl, sym, ap, _∙_}
-use mathlib.Core.Bool.{Bool, true, false, cond}
-use mathlib.Core.List.{List, [], _∷_, _++_, append-assoc, append-nil}
+use mathlib.Core.Bool.{true, false}
+use mathlib.Core.List.{List, [], _∷_, _++_}
 use mathlib.Core.Logic.{_≢_}
 use Prim.Native.Nat.{ℕ, _+_, _≤_, _<_}
 use native.Mathlib.Omega.{arith}
-use lib.Dec.{eqb, ltb}
-use lib.ListN.{length, length-append}
-use borrow.Author.Tests.{eq-eqb, ne-eqb, eqb-true, eqb-false, lt-ltb, le-ltb}
+use lib.ListN.{length}
+use borrow.Author.Tests.{eq-eqb, ne-eqb, lt-ltb, le-ltb}
 use Rattle.vram.specs.Board.{Board}
 use Rattle.list.specs.declared.Bad.{Bad}
 use Rattle.list.specs.declared.Open.{Open}
-use Rattle.list.specs.declared.Open.the-variants.{None}
-use Rattle.list.specs.Fields.{Field, Unreadable, whole, fieldOf, sizeOf, fields}
-use Rattle.list.specs.FieldLaws.{field-not, fields-nil}
+use Rattle.list.specs.Fields.{Field, fieldOf, sizeOf, fields}
 use Rattle.list.specs.Open.{openBy}
-use Rattle.list.specs.Meaning.{numberOf, bad, leftBehind, Outcome, gives}
-use Rattle.list.specs.VerdictLaws.{size-whole, number-not}
+use Rattle.list.specs.Meaning.{bad, leftBehind}
 use Rattle.list.specs.JudgeLaws.{bad-first, bad-later}
 use Rattle.list.specs.Waits.{waits}
-use Rattle.list.specs.WaitsLaws.{settled-length, settled-fields, waits-fields}
 use Rattle.pieces.specs.Line.{Line, line, refused, Port, port, limit, numberOn, draws, met, come, feed, piece, soFar, unfinished, atLast}
 
 -- ---- a field

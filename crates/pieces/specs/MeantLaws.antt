@@ -4,11 +4,12 @@ use mathlib.Core.Path.{_≡_, refl, sym, ap, ap₂, _∙_}
 use mathlib.Core.Bool.{Bool, true, false, cond}
 use mathlib.Core.List.{List, [], _∷_, _++_, append-assoc, append-nil}
 use mathlib.Core.Logic.{_≢_}
-use Prim.Native.Nat.{ℕ, _+_, _≤_, _<_}
+use Prim.Native.Nat.{ℕ, _+_, _≤_}
 use native.Mathlib.Omega.{arith}
 use lib.Dec.{eqb}
 use lib.ListN.{length, length-append}
 use borrow.Author.Tests.{eq-eqb, ne-eqb, eqb-true, eqb-false}
+use Rattle.vram.specs.declared.Cycle.{Cycle}
 use Rattle.vram.specs.Board.{Board}
 use Rattle.vram.specs.Step.{givenOf, rowsOf, number, step, run}
 use Rattle.vram.specs.KeptLaws.{step-loaded}
@@ -17,14 +18,14 @@ use Rattle.vram.specs.CaseLaws.{run-none, run-next, step-rows, number-is}
 use Rattle.list.specs.declared.Bad.{Bad}
 use Rattle.list.specs.declared.Open.{Open}
 use Rattle.list.specs.Fields.{Field, Reads, Unreadable, whole, fieldOf, sizeOf, fields}
-use Rattle.list.specs.FieldLaws.{field-not, fields-nil}
+use Rattle.list.specs.FieldLaws.{fields-nil}
 use Rattle.list.specs.Open.{openBy}
 use Rattle.list.specs.Meaning.{numberOf, madeBy, bad, verdict, cycles, leftBehind, judged, Outcome, gives}
-use Rattle.list.specs.VerdictLaws.{size-whole, number-not, accepted-head, accepted-tail}
+use Rattle.list.specs.VerdictLaws.{number-reads, made-reads, cycles-reads, number-unreadable, cycles-none, size-whole, number-not, accepted-head, accepted-tail}
 use Rattle.list.specs.JudgeLaws.{judged-nil, judged-good, judged-bad}
 use Rattle.list.specs.Waits.{waits}
-use Rattle.list.specs.WaitsLaws.{settled-length, settled-fields, waits-fields}
-use Rattle.pieces.specs.Line.{Line, line, refused, Port, port, limit, numberOn, draws, met, come, feed, piece, atLast}
+use Rattle.list.specs.WaitsLaws.{waits-nil, settled-length, settled-fields, waits-fields}
+use Rattle.pieces.specs.Line.{line, refused, Port, port, limit, numberOn, draws, met, come, piece}
 use Rattle.pieces.specs.LineLaws.{met-run, met-refused, come-waits, come-settled, feed-in, refused-stays, last-kept, last-cut, last-left}
 use Rattle.pieces.specs.Meant.{meant, passing, ended}
 
@@ -45,10 +46,6 @@ module _ (at : ℕ) (f : Field) (fs : List Field) (left : Open) (b : Board) wher
 
 -- ---- the end of the bytes
 
-four : (b : Board) → numberOn Unreadable b ≡ 4
-unfolding numberOf
-four b = refl
-
 done : (h : List ℕ) (at : ℕ) (left : Open) (b : Board) → waits h ≡ true → ended (port (line h at 0 left) b) ≡ meant at (fields h) left b
 done [] at left b k =
     ap (λ (v : Bad). gives v b) (last-left (line [] at 0 left) refl refl)
@@ -57,8 +54,8 @@ done (x ∷ h) at left b k =
     ap (λ (v : Bad). gives v b) (last-cut (line (x ∷ h) at 0 left) refl (λ z. omega arith))
     ∙ sym
     (ap (λ (fs : List Field). meant at fs left b) (waits-fields (x ∷ h) (omega arith) k)
-    ∙ meant-refused at Unreadable [] left b (λ z. omega (arith, four b, z))
-    ∙ ap (λ (n : ℕ). gives (bad n at) b) (four b))
+    ∙ meant-refused at Unreadable [] left b (λ z. omega (arith, number-unreadable (rowsOf b) (b .state .loaded), z))
+    ∙ ap (λ (n : ℕ). gives (bad n at) b) (number-unreadable (rowsOf b) (b .state .loaded)))
 
 -- ---- bytes after waiting ones, if it is so for those after the first of them
 
@@ -81,11 +78,10 @@ module _ (x : ℕ) (s h : List ℕ) (at : ℕ) (left : Open) (b : Board) (k : wa
       ∙ sym (meant-refused at (fieldOf t) fs left b n)
 
   runs : whole t ≡ true → numberOn (fieldOf t) b ≡ 0 → ended (piece (met at (fieldOf t) left b) s) ≡ meant at (fieldOf t ∷ fields s) left b
-  unfolding waits
   runs w z =
       let e : sizeOf (fieldOf t) ≡ length h + 1 = size-whole t w ∙ sym (settled-length h x k w) ∙ longer in
       ap (λ (p : Port). ended (piece p s)) (met-run at (fieldOf t) left b z)
-      ∙ ih [] (at + sizeOf (fieldOf t)) (openBy at (fieldOf t) left) (draws (fieldOf t) b) refl (omega arith)
+      ∙ ih [] (at + sizeOf (fieldOf t)) (openBy at (fieldOf t) left) (draws (fieldOf t) b) waits-nil (omega arith)
       ∙ sym (meant-run at (fieldOf t) (fields s) left b z)
 
   settles : (u : Bool) → whole t ≡ u → (v : Bool) → eqb (numberOn (fieldOf t) b) 0 ≡ v
@@ -118,10 +114,15 @@ module _ (f : Field) (b : Board) (g : givenOf b ≡ 0) (z : numberOn f b ≡ 0) 
     pub loaded : draws f b .state .loaded ≡ madeBy f (b .state .loaded)
 
 pub field-drawn : (f : Field) (b : Board) (g : givenOf b ≡ 0) (z : numberOn f b ≡ 0) → Drawn f b g z
-unfolding draws numberOf madeBy
+unfolding draws
 field-drawn (Reads c n) b g z =
-    record { given = step-given c b ∙ g; rows = step-rows c b; loaded = step-loaded b c (number-is c b g ∙ z) }
-field-drawn Unreadable b g z = absurd (omega arith)
+    record {
+      given = step-given c b ∙ g;
+      rows = step-rows c b;
+      loaded =
+          step-loaded b c (number-is c b g ∙ sym (number-reads c n (rowsOf b) (b .state .loaded)) ∙ z) ∙ sym (made-reads c n (b .state .loaded));
+    }
+field-drawn Unreadable b g z = absurd (omega (arith, number-unreadable (rowsOf b) (b .state .loaded), z))
 
 -- ---- judged as they run, fields get the number and the place that they get when all are judged before
 
@@ -149,13 +150,12 @@ meant-given (f ∷ fs) at left b g = go (eqb (numberOn f b) 0) refl (meant-given
 -- ---- and what is drawn is what those before the refused one draw
 
 draws-cycle : (f : Field) (fs : List Field) (b : Board) → numberOn f b ≡ 0 → run (cycles (f ∷ fs)) b ≡ run (cycles fs) (draws f b)
-unfolding cycles draws numberOf
-draws-cycle (Reads c n) fs b z = run-next step c (cycles fs) b
-draws-cycle Unreadable fs b z = absurd (omega arith)
+unfolding draws
+draws-cycle (Reads c n) fs b z = ap (λ (l : List Cycle). run l b) (cycles-reads c n fs) ∙ run-next step c (cycles fs) b
+draws-cycle Unreadable fs b z = absurd (omega (arith, number-unreadable (rowsOf b) (b .state .loaded), z))
 
 no-cycles : (b : Board) → b ≡ run (cycles []) b
-unfolding cycles
-no-cycles b = sym (run-none step b)
+no-cycles b = sym (ap (λ (l : List Cycle). run l b) cycles-none ∙ run-none step b)
 
 pub meant-after : (fs : List Field) (at : ℕ) (left : Open) (b : Board) → givenOf b ≡ 0
     → meant at fs left b .after ≡ run (cycles (passing (rowsOf b) (b .state .loaded) fs)) b

@@ -2,7 +2,7 @@
 -- is. Change request M-109. Assumes nothing.
 use mathlib.Core.Path.{_≡_, refl, sym, ap, _∙_}
 use mathlib.Core.Bool.{Bool, true, false, _||_, true≢false}
-use mathlib.Core.List.{List, [], _∷_, _++_, flatten, foldl-append}
+use mathlib.Core.List.{List, _∷_, _++_, flatten, foldl-append}
 use mathlib.Core.Logic.{_≢_}
 use Prim.Native.Nat.{ℕ, suc, _+_, _≤_}
 use native.Mathlib.Omega.{arith}
@@ -20,22 +20,21 @@ use Rattle.list.specs.Fields.{fields}
 use Rattle.list.specs.Open.{openOf}
 use Rattle.list.specs.Meaning.{bad, verdict, leftBehind, firstBad, judged, Outcome as ListOutcome}
 use Rattle.list.specs.RangeLaws.{verdict-most}
-use Rattle.list.specs.JudgeLaws.{bad-first, bad-later, bad-zero, judged-refused, judged-passed}
-use Rattle.pieces.specs.Line.{Line, fresh, refused, Port, port, limit, feed, piece, atLast}
+use Rattle.list.specs.JudgeLaws.{left-none, left-at, bad-first, bad-later, bad-zero, judged-refused, judged-passed}
+use Rattle.pieces.specs.Line.{fresh, refused, Port, port, limit, feed, piece, atLast}
 use Rattle.pieces.specs.LineLaws.{feed-over, refused-stays, last-kept, last-cut, last-left}
 use Rattle.pieces.specs.KeepLaws.{fresh-possible, piece-possible}
 use Rattle.pieces.specs.Pieces.{possible}
 use Rattle.pieces.specs.PackLaws.{possible-stopped}
 use Rattle.pieces.specs.MeantLaws.{meant-given}
-use Rattle.pieces.specs.OverLaws.{far, piece-far}
+use Rattle.pieces.specs.OverLaws.{piece-far}
 use Rattle.pieces.specs.Calls.{Outcome}
 use Rattle.pieces.specs.Cutting.{cutCall}
 use Rattle.pieces.specs.CutLaws.{ends-given, ends-joined, new-meant}
 
 left-number : (left : Open) (n : ℕ) → leftBehind left .number ≡ n → n ≢ 0 → n ≡ 20
-unfolding leftBehind
-left-number None n e h = absurd (h (sym e))
-left-number (At place) n e h = sym e
+left-number None n e h = absurd (h (sym e ∙ ap (λ (v : Bad). v .number) left-none))
+left-number (At place) n e h = sym e ∙ ap (λ (v : Bad). v .number) (left-at place)
 
 module _ (a : List ℕ) (x : ℕ) (t : List ℕ) (full : length a ≡ limit) (b : Board) (g : givenOf b ≡ 0) where
   abbrev p : Port

@@ -2,8 +2,7 @@
 use mathlib.Core.Path.{_≡_, refl, sym, ap, _∙_}
 use mathlib.Core.Bool.{Bool, true, false}
 use mathlib.Core.List.{List, [], _∷_, _++_}
-use mathlib.Core.Logic.{_≢_}
-use Prim.Native.Nat.{ℕ, suc, _+_, _≤_}
+use Prim.Native.Nat.{ℕ, _+_}
 use native.Mathlib.Omega.{arith}
 use lib.Dec.{eqb, ltb}
 use lib.ListN.{length, length-append}
@@ -11,11 +10,11 @@ use borrow.Author.Tests.{eqb-true, eqb-false, ltb-true, ltb-false}
 use Rattle.vram.specs.Board.{Board}
 use Rattle.vram.specs.Step.{rowsOf}
 use Rattle.list.specs.declared.Open.{Open}
-use Rattle.list.specs.Fields.{whole, fieldOf, sizeOf}
+use Rattle.list.specs.Fields.{fieldOf}
 use Rattle.list.specs.VerdictLaws.{size-whole, accepted-whole}
 use Rattle.list.specs.Waits.{waits}
 use Rattle.list.specs.WaitsLaws.{settled-length}
-use Rattle.pieces.specs.Line.{Port, port, limit, numberOn, met, come, feed, piece}
+use Rattle.pieces.specs.Line.{Port, limit, numberOn, come, feed, piece}
 use Rattle.pieces.specs.LineLaws.{met-run, met-refused, come-waits, come-settled, feed-refused, feed-in, feed-over}
 use Rattle.pieces.specs.Pieces.{possible}
 use Rattle.pieces.specs.PackLaws.{possible-going}

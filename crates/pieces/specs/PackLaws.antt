@@ -1,19 +1,18 @@
 -- Laws of the line as the code holds it, and of what pieces can make. Assumes nothing.
 use mathlib.Core.Path.{_≡_, refl, sym, ap, _∙_}
-use mathlib.Core.Bool.{Bool, true, false, _&&_, _||_, cond, true≢false}
+use mathlib.Core.Bool.{Bool, true, false, _&&_, _||_}
 use mathlib.Core.List.{List, [], _∷_, _++_}
 use mathlib.Core.Logic.{_≢_}
 use Prim.Native.Nat.{ℕ, zero, suc, _+_, _-_, _≤_, _<_}
 use native.Mathlib.Omega.{arith}
 use native.Mathlib.Numerals.{add-one}
-use lib.Dec.{eqb, leb, ltb}
-use lib.ListN.{length, getD, take, drop, set, length-take, length-append, drop-of-length-le}
+use lib.Dec.{eqb, leb}
+use lib.ListN.{length, getD, take, drop, set, length-take, drop-of-length-le}
 use lib.Seq.{drop-cons}
 use borrow.Author.Tests.{eqb-true, eqb-false, eq-eqb, ne-eqb, leb-true, leb-false, le-leb, lt-leb}
 use Rattle.numbers.specs.Between.{both}
 use Rattle.refusals.specs.Refusal.{refusing}
 use Rattle.list.specs.declared.Open.{Open}
-use Rattle.list.specs.declared.Open.the-variants.{None, At}
 use Rattle.list.specs.Waits.{waits}
 use Rattle.list.specs.WaitsLaws.{waits-few}
 use Rattle.pieces.specs.declared.Pieces.{Pieces}

@@ -1,6 +1,6 @@
 -- The fields before the refused one are those of the bytes before its place. Assumes nothing.
 use mathlib.Core.Path.{_≡_, refl, sym, ap, ap₂, _∙_}
-use mathlib.Core.Bool.{Bool, true, false, cond}
+use mathlib.Core.Bool.{Bool, true, false}
 use mathlib.Core.List.{List, [], _∷_, _++_}
 use mathlib.Core.Logic.{_≢_}
 use Prim.Native.Nat.{ℕ, zero, suc, _+_, _-_, _≤_, _<_}
@@ -11,7 +11,7 @@ use lib.Seq.{take-add, drop-at}
 use borrow.Author.Tests.{eqb-true, eqb-false, eq-eqb, ne-eqb}
 use Rattle.list.specs.declared.Bad.{Bad}
 use Rattle.list.specs.Tags.{lenOf}
-use Rattle.list.specs.Fields.{Field, Unreadable, tag, whole, fieldOf, sizeOf, fields}
+use Rattle.list.specs.Fields.{Field, Unreadable, tag, whole, fieldOf, fields}
 use Rattle.list.specs.FieldLaws.{tag-append, whole-length, field-not, fields-nil, fields-whole, fields-not}
 use Rattle.list.specs.Meaning.{numberOf, madeBy, bad, verdict}
 use Rattle.list.specs.VerdictLaws.{size-whole, number-not, verdict-nil, verdict-good, verdict-bad}

@@ -13,7 +13,7 @@ use Rattle.pieces.specs.Line.{fresh, port}
 use Rattle.pieces.specs.Pieces.{pack, unpack, sound}
 use Rattle.pieces.specs.PackLaws.{Sound, sound-pack, made-sound}
 use Rattle.pieces.specs.KeepLaws.{fresh-possible, piece-possible}
-use Rattle.pieces.specs.Calls.{Outcome, firstNumber, takeCall, endCall}
+use Rattle.pieces.specs.Calls.{firstNumber, takeCall, endCall}
 use Rattle.pieces.specs.CallLaws.{first-given, take-first, end-first, take-is, end-is}
 
 -- a call, with the piece and the board that it is given

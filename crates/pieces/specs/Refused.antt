@@ -7,19 +7,18 @@ use mathlib.Core.Logic.{_≢_}
 use Prim.Native.Nat.{ℕ}
 use lib.Dec.{eqb}
 use borrow.Author.Tests.{eqb-true, eqb-false}
-use Rattle.numbers.specs.RefuseLaws.{leaves-made, leaves-before}
 use Rattle.vram.specs.Board.{Board}
 use Rattle.vram.specs.Step.{givenOf}
 use Rattle.list.specs.declared.Bad.{Bad}
 use Rattle.list.specs.Meaning.{bad}
 use Rattle.pieces.specs.declared.Pieces.{Pieces}
-use Rattle.pieces.specs.Line.{Line, fresh, Port, port, feed, piece, soFar, atLast}
+use Rattle.pieces.specs.Line.{Line, Port, port, feed, piece, soFar}
 use Rattle.pieces.specs.LineLaws.{so-far-none, so-far-kept, last-kept, refused-stays}
-use Rattle.pieces.specs.Pieces.{pack, unpack, possible, sound}
+use Rattle.pieces.specs.Pieces.{unpack, possible}
 use Rattle.pieces.specs.PackLaws.{sound-possible}
 use Rattle.pieces.specs.KeepLaws.{piece-possible, piece-given}
 use Rattle.pieces.specs.Calls.{Outcome, gives, firstNumber, fed, takeCall, endCall}
-use Rattle.pieces.specs.CallLaws.{first-zero, take-first, take-done, end-first, take-made, end-made, take-is, end-is}
+use Rattle.pieces.specs.CallLaws.{first-zero, take-first, end-first, take-made, end-made, take-is, end-is}
 
 -- a line is refused where its piece's answer is
 kept : (l : Line) → soFar l .number ≢ 0 → l .number ≢ 0

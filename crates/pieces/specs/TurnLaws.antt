@@ -1,15 +1,14 @@
 -- What the code's steps through a piece come to. Assumes nothing.
 use mathlib.Core.Path.{_≡_, refl, sym, ap, ap₂, _∙_, subst}
-use mathlib.Core.Bool.{Bool, true, false, cond, true≢false}
-use mathlib.Core.List.{List, [], _∷_, _++_}
+use mathlib.Core.Bool.{Bool, true, false, true≢false}
+use mathlib.Core.List.{List, []}
 use mathlib.Core.Logic.{_≢_}
-use Prim.Native.Nat.{ℕ, suc, _+_, _-_, _≤_, _<_}
+use Prim.Native.Nat.{ℕ, _+_, _-_, _≤_, _<_}
 use native.Mathlib.Omega.{arith}
 use native.Mathlib.Nat.{add-zero}
-use lib.Dec.{eqb, ltb}
-use lib.ListN.{length, getD, take, drop, set, length-append, length-drop, drop-of-length-le}
-use lib.Seq.{drop-drop}
-use borrow.Author.Tests.{eq-eqb, ne-eqb, eqb-true, eqb-false}
+use lib.Dec.{eqb}
+use lib.ListN.{length, drop}
+use borrow.Author.Tests.{ne-eqb, eqb-true, eqb-false}
 use Rattle.vram.specs.declared.Cycle.{Cycle}
 use Rattle.vram.specs.Board.{Board}
 use Rattle.vram.specs.Step.{givenOf, rowsOf, number, step}
@@ -20,26 +19,24 @@ use Rattle.vram.specs.Calls.{Outcome, cycleCall}
 use Rattle.list.specs.declared.Head.{Head}
 use Rattle.list.specs.declared.Head.the-variants.{Waits, Wrong, Whole}
 use Rattle.list.specs.declared.Open.{Open}
-use Rattle.list.specs.declared.Open.the-variants.{None}
 use Rattle.list.specs.Tags.{lenOf, cycleOf}
 use Rattle.list.specs.TagLaws.{len-most}
-use Rattle.list.specs.Fields.{Field, Reads, tag, body, whole, fieldOf, sizeOf}
+use Rattle.list.specs.Fields.{tag, body, whole, fieldOf}
 use Rattle.list.specs.FieldLaws.{whole-length, field-whole}
-use Rattle.list.specs.Open.{opens, openBy}
+use Rattle.list.specs.Open.{opens}
 use Rattle.list.specs.OpenLaws.{open-whole}
 use Rattle.list.specs.VerdictLaws.{size-whole, number-whole, accepted-whole}
 use Rattle.list.specs.Heads.{headOf}
 use Rattle.list.specs.HeadLaws.{Told, head-told}
 use Rattle.list.specs.Waits.{waits}
 use Rattle.list.specs.WaitsLaws.{whole-settled, settled-fits}
-use Rattle.pieces.specs.declared.Pieces.{Pieces}
-use Rattle.pieces.specs.Line.{Line, line, refused, Port, port, limit, numberOn, draws, met, feed, piece}
+use Rattle.pieces.specs.Line.{line, refused, Port, port, limit, numberOn, draws, met, piece}
 use Rattle.pieces.specs.LineLaws.{met-run, met-refused, refused-stays}
 use Rattle.pieces.specs.WholeLaws.{whole-turn, met-wrong, wrong-turn}
-use Rattle.pieces.specs.Pieces.{pack, unpack, possible}
-use Rattle.pieces.specs.PackLaws.{possible-going, Sound, sound-pack, unpack-pack}
+use Rattle.pieces.specs.Pieces.{possible}
+use Rattle.pieces.specs.PackLaws.{possible-going}
 use Rattle.pieces.specs.KeepLaws.{met-possible}
-use Rattle.pieces.specs.Turns.{standing, Meets, Along}
+use Rattle.pieces.specs.Turns.{standing, Meets}
 
 -- ---- the field at the head of some bytes, by what the code has of it
 

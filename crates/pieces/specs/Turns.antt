@@ -13,7 +13,7 @@ use Rattle.list.specs.Tags.{lenOf}
 use Rattle.list.specs.Fields.{tag, whole, fieldOf}
 use Rattle.list.specs.Waits.{waits}
 use Rattle.pieces.specs.declared.Pieces.{Pieces}
-use Rattle.pieces.specs.Line.{Line, line, Port, port, limit, met, piece}
+use Rattle.pieces.specs.Line.{Line, line, port, limit, met, piece}
 use Rattle.pieces.specs.Pieces.{pad, unpack}
 use Rattle.pieces.specs.PackLaws.{Sound}
 

@@ -1,9 +1,9 @@
 -- Bytes that stand together: a whole field at their head goes at once, and so does one that no bytes can make. Assumes nothing.
-use mathlib.Core.Path.{_≡_, refl, sym, ap, ap₂, _∙_}
+use mathlib.Core.Path.{_≡_, refl, sym, ap, _∙_}
 use mathlib.Core.Bool.{Bool, true, false, true≢false}
 use mathlib.Core.List.{List, [], _∷_, _++_, append-assoc, append-nil}
 use mathlib.Core.Logic.{_≢_}
-use Prim.Native.Nat.{ℕ, suc, _+_, _-_, _≤_, _<_}
+use Prim.Native.Nat.{ℕ, suc, _+_, _-_, _≤_}
 use native.Mathlib.Omega.{arith}
 use lib.Dec.{ltb}
 use lib.ListN.{length, drop, length-append}
@@ -16,8 +16,8 @@ use Rattle.list.specs.Fields.{Field, tag, whole, fieldOf}
 use Rattle.list.specs.FieldLaws.{tag-append}
 use Rattle.list.specs.VerdictLaws.{number-not}
 use Rattle.list.specs.Waits.{waits}
-use Rattle.list.specs.WaitsLaws.{waits-not, settled-long, settled-whole, settled-append, settled-length, waits-less}
-use Rattle.pieces.specs.Line.{line, refused, Port, port, limit, numberOn, met, come, feed, piece}
+use Rattle.list.specs.WaitsLaws.{waits-nil, waits-not, settled-long, settled-whole, settled-append, settled-length, waits-less}
+use Rattle.pieces.specs.Line.{line, refused, Port, port, limit, numberOn, met, come, piece}
 use Rattle.pieces.specs.LineLaws.{met-refused, come-waits, come-settled, feed-in, feed-over, refused-stays}
 
 module _ (at : ℕ) (left : Open) (b : Board) where
@@ -59,10 +59,9 @@ module _ (at : ℕ) (left : Open) (b : Board) where
 
   pub whole-turn : (s : List ℕ) → whole s ≡ true → at + (3 + lenOf (tag s)) ≤ limit
       → piece (port (line [] at 0 left) b) s ≡ piece (met at (fieldOf s) left b) (drop (3 + lenOf (tag s)) s)
-  unfolding waits
   whole-turn s w l =
       let z : 3 + lenOf (tag s) - 0 ≡ 3 + lenOf (tag s) = omega arith in
-      rest-of (fieldOf s) (3 + lenOf (tag s)) l s [] refl (record { good = w; field = refl; size = refl })
+      rest-of (fieldOf s) (3 + lenOf (tag s)) l s [] waits-nil (record { good = w; field = refl; size = refl })
       ∙ ap (λ (i : ℕ). piece (met at (fieldOf s) left b) (drop i s)) z
 
   -- ---- bytes that can be no field are refused at its offset, whatever the limit
@@ -93,5 +92,4 @@ module _ (at : ℕ) (left : Open) (b : Board) where
   rest-wrong (x ∷ s) h k n w = fails x s h n w (rest-wrong s) (ltb (at + length h) limit) refl (waits (h ++ x ∷ [])) refl
 
   pub wrong-turn : (s : List ℕ) → waits s ≡ false → whole s ≡ false → piece (port (line [] at 0 left) b) s ≡ port (refused 4 at) b
-  unfolding waits
-  wrong-turn s n w = rest-wrong s [] refl n w
+  wrong-turn s n w = rest-wrong s [] waits-nil n w

@@ -1,6 +1,5 @@
 // One field, when its last byte has come.
 ghost use mathlib.Core.Path.{_≡_};
-ghost use Prim.Native.Nat.{_≤_};
 ghost use lib.ListN.{take};
 ghost use Rattle.vram.specs.Board.{board};
 ghost use Rattle.vram.specs.Step.{givenOf};
@@ -24,6 +23,18 @@ pub(crate) struct Met {
     pub waits: bool,
 }
 
+fn left_by(state: Vram, left: Open, size: usize, number: u32, waits: bool) -> Met
+    ensures { λ r. ⌜ r ≡ record { state = state; left = left; size = size; number = number; waits = waits } ⌝ }
+{
+    Met {
+        state,
+        left,
+        size,
+        number,
+        waits,
+    }
+}
+
 // It is judged, and run where nothing refuses it.
 pub(crate) fn meet(
     at: u32,
@@ -38,41 +49,17 @@ pub(crate) fn meet(
 {
     let head = head_of(bytes);
     match head {
-        Head::Waits => Met {
-            state,
-            left,
-            size: 0,
-            number: numbers::DONE,
-            waits: true,
-        },
-        Head::Wrong => Met {
-            state,
-            left,
-            size: 0,
-            number: numbers::FIELD_UNREADABLE,
-            waits: false,
-        },
+        Head::Waits => left_by(state, left, 0, numbers::DONE, true),
+        Head::Wrong => left_by(state, left, 0, numbers::FIELD_UNREADABLE, false),
         Head::Whole { cycle, size } => {
             let answer = state.cycle(memory, serial, cycle);
             let after = answer.state;
             if answer.number != numbers::DONE {
-                return Met {
-                    state: after,
-                    left,
-                    size: 0,
-                    number: answer.number,
-                    waits: false,
-                };
+                return left_by(after, left, 0, answer.number, false);
             }
             let tag = bytes[0];
             let opened = opens(tag, at as u64, left);
-            Met {
-                state: after,
-                left: opened,
-                size,
-                number: numbers::DONE,
-                waits: false,
-            }
+            left_by(after, opened, size, numbers::DONE, false)
         }
     }
 }

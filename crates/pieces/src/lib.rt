@@ -120,9 +120,10 @@ pub fn end(state: Vram, pieces: Pieces, memory: &[u16], serial: &[u16]) -> Taken
         };
     }
     let bad = at_last(pieces);
+    let next = fresh();
     Taken {
         state,
-        pieces: fresh(),
+        pieces: next,
         number: bad.number,
         place: bad.place,
     }

@@ -6,7 +6,7 @@ use mathlib.Core.List.{List}
 use mathlib.Core.Logic.{_≢_}
 use native.Mathlib.Omega.{arith}
 use lib.Dec.{eqb, leb}
-use borrow.Author.Tests.{eq-eqb, ne-eqb, eqb-true, eqb-false, leb-true}
+use borrow.Author.Tests.{eqb-true, eqb-false, leb-true}
 use Rattle.numbers.specs.Between.{both}
 use Rattle.vram.specs.declared.Vram.{Vram}
 use Rattle.vram.specs.Board.{board}
@@ -22,7 +22,7 @@ use Rattle.pieces.specs.Calls.{Outcome, gives, outcome, firstNumber, takeCall a
 use Rattle.pieces.specs.Refused.{first-nothing}
 use Rattle.pieces_c.specs.declared.Pieces.{Pieces}
 use Rattle.pieces_c.specs.declared.Taken.{Taken}
-use Rattle.pieces_c.specs.Line.{lineLawful, takenLine, handedWith, handedBy, handedLine, handedTaken, excludedTaken}
+use Rattle.pieces_c.specs.Line.{lineLawful, takenLine, handedBy, handedLine, handedTaken, excludedTaken}
 use Rattle.pieces_c.specs.Calls.{Answered, answered, answerOf, taking, takeCall, endCall}
 
 -- ---- the line, there and back

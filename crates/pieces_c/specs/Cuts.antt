@@ -1,7 +1,7 @@
 -- Every cutting, for C: whatever the bytes of the state are, a list in pieces is answered as `linkshoar_list_run` answers it whole, and an
 -- accepted one leaves the same. Change request M-109. Assumes nothing.
 use Prim.Native.Nat.{ℕ, _≤_}
-use mathlib.Core.Path.{_≡_, refl, sym, ap, ap₂, _∙_}
+use mathlib.Core.Path.{_≡_, refl, sym, ap, _∙_}
 use mathlib.Core.Bool.{Bool, true, false, _&&_}
 use mathlib.Core.List.{List, [], _∷_, flatten}
 use native.Mathlib.Omega.{arith}
@@ -10,34 +10,36 @@ use Rattle.vram.specs.declared.Vram.{Vram}
 use Rattle.vram.specs.Board.{board, effect}
 use Rattle.list.specs.declared.Bad.{Bad}
 use Rattle.list.specs.Meaning.{bad, verdictOf, runCall}
-use Rattle.list.specs.CallLaws.{call-given, accepted-zeros}
+use Rattle.list.specs.CallLaws.{call-given}
 use Rattle.registers.specs.declared.Registers.{Registers}
-use Rattle.registers.specs.State.{lawful, taken, handed, excludedRan}
+use Rattle.registers.specs.State.{lawful, taken, handed}
 use Rattle.registers.specs.StateLaws.{handed-taken}
 use Rattle.registers.specs.Lists.{Listed, listAnswer, listCall}
 use Rattle.registers.specs.ListLaws.{list-excluded, list-handed, list-plain}
 use Rattle.pieces.specs.declared.Pieces.{Pieces as Below}
 use Rattle.pieces.specs.Line.{fresh, limit}
 use Rattle.pieces.specs.Pieces.{pack}
-use Rattle.pieces.specs.Calls.{Outcome, gives, takeCall as belowTake}
+use Rattle.pieces.specs.Calls.{gives, takeCall as belowTake}
 use Rattle.pieces.specs.Cutting.{ends as belowEnds, cutCall as belowCut}
+use Rattle.pieces.specs.CutLaws.{ends-none as belowNone, ends-next as belowNext}
 use Rattle.pieces.specs.Cuts.{cut-verdict, cut-accepted}
 use Rattle.pieces.specs.Over.{accepted-fits}
 use Rattle.pieces_c.specs.declared.Pieces.{Pieces}
 use Rattle.pieces_c.specs.Line.{lineLawful, handedLine, excludedTaken}
-use Rattle.pieces_c.specs.Calls.{Answered, answered, answerOf, takeCall}
+use Rattle.pieces_c.specs.Calls.{Answered, answered, answerOf}
 use Rattle.pieces_c.specs.CallLaws.{take-handed, end-handed, take-excluded, end-excluded}
 use Rattle.pieces_c.specs.Cutting.{ends, cutCall}
 
 -- ---- on what was handed to C the calls are those below
 
 ends-handed : (ss : List (List ℕ)) (v : Vram) (p : Below) (m q : List ℕ) → ends ss (handed v) (handedLine p) m q ≡ answerOf (belowEnds ss p (board v m q))
-unfolding ends belowEnds
-ends-handed [] v p m q = end-handed v p m q
+unfolding ends
+ends-handed [] v p m q = end-handed v p m q ∙ ap answerOf (sym (belowNone p (board v m q)))
 ends-handed (piece ∷ ss) v p m q =
     let o = belowTake p piece (board v m q) in
     ap (λ (x : Answered). ends ss (x .answer .state) (x .answer .pieces) (x .memory) (x .serial)) (take-handed v p m q piece)
     ∙ ends-handed ss (o .after .state) (o .pieces) (o .after .memory) (o .after .serial)
+    ∙ ap answerOf (sym (belowNext piece ss p (board v m q)))
 
 -- and where no `Vram` can be so, each gives 1
 ends-excluded : (ss : List (List ℕ)) (s : Registers) (p : Pieces) (m q : List ℕ) → (lawful s && lineLawful p) ≡ false → ends ss s p m q ≡ answered (excludedTaken s p) m q

@@ -8,12 +8,12 @@ ghost use Rattle.pieces_c.specs.Calls.{answered, takeCall, endCall};
 
 mod line;
 
+use line::both_lawful;
+use line::excluded;
 use line::hand_line;
 use line::hand_taken;
-use line::line_lawful;
 use line::take_line;
 use registers::Registers;
-use registers::lawful;
 use registers::take;
 
 // Where a list stands between two pieces. open: 0 no mask load is open, 1 one is, at the offset left.
@@ -56,16 +56,11 @@ pub extern "C" fn linkshoar_pieces_take(
 ) -> Taken
     ensures { λ r. ⌜ answered r (now (memory .exit)) (now (serial .exit)) ≡ takeCall state line (now (memory .entry)) (now (serial .entry)) (now (piece .entry)) ⌝ }
 {
-    if lawful(state) & line_lawful(line) {
+    if both_lawful(state, line) {
         let taken = pieces::take(take(state), take_line(line), memory, serial, piece);
         return hand_taken(taken);
     }
-    Taken {
-        state,
-        pieces: line,
-        number: numbers::STATE_EXCLUDED,
-        place: 0,
-    }
+    excluded(state, line)
 }
 
 // The list is over.
@@ -78,14 +73,9 @@ pub extern "C" fn linkshoar_pieces_end(
 ) -> Taken
     ensures { λ r. ⌜ answered r (now (memory .entry)) (now (serial .entry)) ≡ endCall state line (now (memory .entry)) (now (serial .entry)) ⌝ }
 {
-    if lawful(state) & line_lawful(line) {
+    if both_lawful(state, line) {
         let taken = pieces::end(take(state), take_line(line), memory, serial);
         return hand_taken(taken);
     }
-    Taken {
-        state,
-        pieces: line,
-        number: numbers::STATE_EXCLUDED,
-        place: 0,
-    }
+    excluded(state, line)
 }

@@ -1,19 +1,30 @@
 // Where a list stands, there and back.
 ghost use mathlib.Core.Path.{_≡_};
-ghost use Rattle.pieces_c.specs.Line.{lineLawful, takenLine, handedLine, handedTaken};
+ghost use mathlib.Core.Bool.{_&&_};
+ghost use Rattle.registers.specs.State.{lawful};
+ghost use Rattle.pieces_c.specs.Line.{lineLawful, takenLine, handedLine, handedTaken, excludedTaken};
 use crate::Pieces;
 use crate::Taken;
 use list::Open;
+use registers::Registers;
 use registers::hand;
 
 // Whether a line can be so: open is 0 or 1, and there is no offset where no mask load is open.
-pub(crate) fn line_lawful(line: Pieces) -> bool
+fn line_lawful(line: Pieces) -> bool
     ensures { λ r. ⌜ r ≡ lineLawful line ⌝ }
 {
     (line.open <= 1) & ((line.open == 1) | (line.left == 0))
 }
 
-// As `pieces` has it. Whoever calls this has asked `line_lawful`.
+// Whether a `Vram` and a line can be so.
+pub(crate) fn both_lawful(state: Registers, line: Pieces) -> bool
+    ensures { λ r. ⌜ r ≡ (lawful state && lineLawful line) ⌝ }
+{
+    let good = line_lawful(line);
+    registers::lawful(state) & good
+}
+
+// As `pieces` has it. Whoever calls this has asked `both_lawful`.
 pub(crate) fn take_line(line: Pieces) -> pieces::Pieces
     ensures { λ r. ⌜ r ≡ takenLine line ⌝ }
 {
@@ -73,5 +84,17 @@ pub(crate) fn hand_taken(taken: pieces::Taken) -> Taken
         pieces: hand_line(line),
         number: taken.number,
         place: taken.place,
+    }
+}
+
+// The answer where no `Vram` or no line can be so: 1, and both as they came.
+pub(crate) fn excluded(state: Registers, line: Pieces) -> Taken
+    ensures { λ r. ⌜ r ≡ excludedTaken state line ⌝ }
+{
+    Taken {
+        state,
+        pieces: line,
+        number: numbers::STATE_EXCLUDED,
+        place: 0,
     }
 }

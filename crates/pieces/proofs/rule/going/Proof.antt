@@ -1,5 +1,5 @@
 -- `pieces::rule::going` meets its contract. Assumes nothing.
-use mathlib.Core.Path.{sym, _∙_}
+use mathlib.Core.Path.{sym}
 use native.Mathlib.Omega.{arith}
 use lib.ListN.{length-take}
 use Rattle.pieces.specs.Line.{limit}

@@ -2,7 +2,7 @@
 use mathlib.Core.Path.{_≡_, refl, _∙_}
 use native.Mathlib.Omega.{arith}
 use Prim.Native.Nat.{_-_}
-use lib.ListN.{length, drop, length-drop}
+use lib.ListN.{length, length-drop}
 use Rattle.numbers.specs.BufferLaws.{tail-part}
 use Rattle.vram.specs.Board.{board}
 use Rattle.pieces.specs.Turns.{Along}

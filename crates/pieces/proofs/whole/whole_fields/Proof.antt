@@ -1,9 +1,9 @@
 -- `pieces::whole::whole_fields` meets its contract: one turn of the loop is one field. Assumes nothing.
 use mathlib.Core.Path.{_≡_, refl, sym, ap, _∙_}
 use mathlib.Core.Bool.{true}
-use mathlib.Core.List.{List, []}
+use mathlib.Core.List.{[]}
 use native.Mathlib.Omega.{arith}
-use Prim.Native.Nat.{ℕ, _-_, _≤_}
+use Prim.Native.Nat.{_-_, _≤_}
 use lib.ListN.{length, drop}
 use Rattle.numbers.specs.BufferLaws.{tail-part}
 use Rattle.vram.specs.declared.Vram.{Vram}
