@@ -5,8 +5,8 @@
  * The caller holds the states and lends the memory; nothing is allocated, nothing is kept, and no call blocks. A state goes in by value and
  * the new one comes back in the answer: keep it, since the next call takes it. Every call takes every input: what it cannot do it refuses
  * with a number, and a refusal changes nothing that was lent, hands the state back as it came and answers zeros besides, but for the place
- * in a list or a page. One call differs on purpose: linkshoar_pieces_take draws a list while it comes, so a field that it refuses leaves
- * the fields before it drawn (see "Lists in pieces").
+ * in a list or a page. Two calls differ on purpose: linkshoar_pieces_take draws a list while it comes, so a field that it refuses leaves
+ * the fields before it drawn, and linkshoar_pieces_end ends the list also where it refuses it (see "Lists in pieces").
  *
  * What C owes: lengths that are true, in words or bytes as the pointer's type is; slices that do not overlap. A state that no chip can have
  * is refused with 1: yes-or-no bytes in it are 0 or 1, and the structs below say what the others may be; a fresh state, and what calls that
@@ -159,8 +159,8 @@ typedef struct {
 
 /* Where a list that comes in pieces stands: between two pieces the caller keeps it, as it keeps the state. */
 typedef struct {
-    uint64_t left;    /* the offset of the mask load that is still open; 0 where none is */
-    uint32_t start;   /* the offset in the list of the unfinished field; of the field refused, where one was */
+    uint64_t left;    /* the offset of the mask load that is still open, that is, has no reset refresh after it; 0 where none is */
+    uint32_t start;   /* the offset in the list of the unfinished field, or where the next begins; of the field refused, where one was */
     uint32_t number;  /* the number that the list was refused with; 0 where it was not */
     uint8_t held[13]; /* the unfinished field's bytes, then zeros */
     uint8_t count;    /* how many are held, 12 at most */
@@ -266,7 +266,8 @@ typedef struct {
  * a plain write. half: of the row, 0 columns 0 to 255, 1 columns 256 to 511. tap: a place, 0 to 255; of a split transfer 0 to 127.
  * partition length: 16, 32, 64 or 128.
  *
- * After a mask load a reset refresh comes, anywhere further on in the same list: else the list is refused whole. */
+ * After a mask load a reset refresh comes, anywhere further on in the same list: else the list is refused whole, one in pieces by its last
+ * call. */
 enum {
     LINKSHOAR_TAG_WORD_WRITE = 1,
     LINKSHOAR_TAG_BLOCK_WRITE = 2,
@@ -459,8 +460,8 @@ linkshoar_paged linkshoar_page(uint32_t rows, uint32_t persistent, const uint8_t
 
 /* Checks a list whole, then runs it in order; length: the list's bytes. A list with a mask load or a reset refresh, where it is not refused,
  * leaves the mask not persistent; any other leaves persistence as it was. So from a fresh state on no fill or page that is given the
- * state's own persistent is refused with 13, and the same holds with the three runs below; not with lists in pieces. Refused with 1 to 10,
- * 19, 20. */
+ * state's own persistent is refused with 13, and the same holds with the three runs below, and with lists in pieces that are accepted, once
+ * they are over, with no other call between their pieces. Refused with 1 to 10, 19, 20. */
 linkshoar_ran linkshoar_list_run(linkshoar_vram state, uint16_t *memory, size_t words, uint16_t *serial, size_t serial_words,
                                  const uint8_t *list, size_t length);
 
@@ -541,51 +542,57 @@ linkshoar_byte linkshoar_palette_read_lent(linkshoar_palette *state, const uint8
  *
  *   linkshoar_pieces pieces = linkshoar_pieces_fresh();
  *   linkshoar_taken t;
- *   while ((n = receive(port, bytes, sizeof bytes)) > 0) {
+ *   size_t n;
+ *   while (more_of_the_list(port, bytes, &n)) {
  *       t = linkshoar_pieces_take(state, pieces, memory, words, serial, LINKSHOAR_SERIAL_WORDS, bytes, n);
  *       state = t.state, pieces = t.pieces;
+ *       if (t.number && t.number <= LINKSHOAR_REGISTER_LENGTH)
+ *           stop(linkshoar_strerror(t.number));
  *   }
  *   t = linkshoar_pieces_end(state, pieces, memory, words, serial, LINKSHOAR_SERIAL_WORDS);
  *   state = t.state, pieces = t.pieces;
  *   if (t.number)
  *       complain(linkshoar_strerror(t.number), t.place);
  *
- * Where the sender says where a list ends, linkshoar_pieces_end is called there, and the same loop goes on with the next list. The loop need
- * not look at a piece's number from 4 on: the last call says it again. But 1 to 3 say that the program's state or lengths are wrong, and
- * that the piece was not taken: it is lost unless it is given again.
+ * A piece's number from 4 on need not be looked at: the last call says it again. But 1 to 3 say that the program's state, pieces or lengths
+ * are wrong: no byte of that piece was taken, and at the last call the list is not over. After any other answer of the last call the same
+ * loop goes on with the next list. Where a list ends, the sender has to say: its bytes do not, so one that stops between two fields looks
+ * whole. Where a buffer has the end of one list and the start of the next, it is given in two pieces, with the last call between. To give a
+ * list up, as when the line drops, end it, or begin anew with linkshoar_pieces_fresh: what is drawn stays drawn.
  *
- * With no other call between, each lent what the one before left, the last call answers the number and the place that linkshoar_list_run
- * would have answered for the whole list, however it was cut; and where that is 0 it leaves the same state, memory and serial register.
- * What differs where it is not 0: the fields before the refused one stay drawn, with 20 all of them, and the state is the one that they
- * left. So the mask may then be persistent, and a fill would be refused with 13: a list of one reset refresh puts that right, and
- * brings partitions of 128 places back. A link that sends marked rows sends the whole screen after a list in pieces, since that marks no
- * row.
+ * With no other call between, each lent what the one before left, the last call answers for a list of at most 4294967295 bytes, however it
+ * was cut, the number and the place that linkshoar_list_run would have answered for the whole list on the state and contents before the
+ * first piece; and where that is 0 it leaves the same state, memory and serial register. What differs where it is not 0: the fields before
+ * the refused one stay drawn, with 20 all of them, and the state is the one that they left. So the mask may then be persistent, and a fill
+ * would be refused with 13: once the refused list is over, a list of one reset refresh puts that right, and brings partitions of 128 places
+ * back. No row is marked by a list in pieces: a link that sends marked rows sends the whole screen after each piece that may have drawn.
  *
- * Other calls may stand between two pieces, as panel runs do while a list is slow to come: a field is judged on the state as it is when the
- * field's last byte has come, and draws on that.
+ * Other calls may stand between two pieces, as panel runs do while a list is slow to come: the next piece takes the state that they answer. A
+ * field is judged on the state as it is when the field's last byte has come, and draws on that. Whether a mask load is open goes by the
+ * list's own fields: another list's reset refresh between two pieces closes none of them, and the last call still gives 20.
  *
- * A list has at most 4294967295 bytes, UINT32_MAX: one more is refused with 4, at the offset of its field.
+ * In pieces a list has at most 4294967295 bytes, UINT32_MAX: one more is refused with 4, at the offset of its field.
  *
- * A linkshoar_pieces that is not as follows is refused with 1; a fresh one, and what calls make of it, always is. The bytes of held from
- * count on are zeros. Where number is 0: count is at most 12; the bytes held are the start of a field and not the whole of it, so where
- * there are three or more, tag and length are those of a field; start and count together are at most UINT32_MAX; open and left are 0, or
- * open is 1 and left is below start. Where number is not 0 it is one of 4 to 10 or 19, and count, open and left are 0. */
+ * A fresh linkshoar_pieces, and what calls make of it, is always as follows; any other is refused with 1. The bytes of held from count on are
+ * zeros. Where number is 0: count is at most 12, and more bytes may make a field of those held, so that where there are three or more their
+ * tag is known, their length is the tag's, and the field's last byte is not there; start and count together are at most UINT32_MAX; open
+ * and left are 0, or open is 1 and left is below start. Where number is not 0 it is one of 4 to 10 or 19, and count, open and left are 0. */
 
-/* Before the first piece: all zeros. After linkshoar_pieces_end the pieces are so again. */
+/* Before the first piece: all zeros. The pieces are so again after linkshoar_pieces_end, unless that gives 1 to 3. */
 linkshoar_pieces linkshoar_pieces_fresh(void);
 
 /* Takes a piece, of any length, also none. A field is judged when its last byte has come, as linkshoar_list_run judges it, and run; an
  * unknown tag or a length that is not its tag's is refused as soon as the header's three bytes are there. An unfinished field is no
- * refusal: its bytes are held. Once a field is refused, the rest of the piece and all later pieces draw nothing and get the same number and
- * place, until linkshoar_pieces_end. Refused with 1 for the pieces; then with 1 to 3: then no byte of the piece is taken, and it may be
- * given again; then with 4 to 10, 19. */
+ * refusal: its bytes are held. Once a field is refused, the rest of the piece and all later pieces draw nothing and, where 1 to 3 pass, get
+ * the same number and place, until linkshoar_pieces_end. Refused with 1, for the pieces or the state, 2 or 3: no byte of the piece is taken
+ * then, and it may be given again. Else with 4 to 10, 19. */
 linkshoar_taken linkshoar_pieces_take(linkshoar_vram state, linkshoar_pieces pieces, uint16_t *memory, size_t words, uint16_t *serial,
                                       size_t serial_words, const uint8_t *piece, size_t length);
 
 /* The list is over: the refusal that a field has had; else 4 where a field is unfinished, with its offset; else 20 where a mask load is
  * still open. In any of these cases, and where nothing is refused, the pieces come back fresh, and the next piece starts a new list. The
- * state is as it came; memory and serial are only measured. Refused with 1 for the pieces; then with 1 to 3: then the list is not over, and
- * the pieces come back as they were; then with 4 to 10, 19, 20. */
+ * state is as it came; memory and serial are only measured. Refused with 1, for the pieces or the state, 2 or 3: the list is not over then,
+ * and the pieces come back as they were. Else with 4 to 10, 19, 20. */
 linkshoar_taken linkshoar_pieces_end(linkshoar_vram state, linkshoar_pieces pieces, const uint16_t *memory, size_t words,
                                      const uint16_t *serial, size_t serial_words);
 

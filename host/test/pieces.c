@@ -315,7 +315,8 @@ static void every_mask_list(void)
             linkshoar_taken t = both_take(model_vram_fresh(), model_pieces_fresh(), 512, 256, 0, length - last / 2);
             t = both_take(t.state, t.pieces, 512, 256, length - last / 2, last / 2);
             t = both_end(t.state, t.pieces, 512, 256);
-            both_take(t.state, t.pieces, 512, 256, 0, length);
+            t = both_take(t.state, t.pieces, 512, 256, 0, length);
+            both_end(t.state, t.pieces, 512, 256);
         }
 }
 

@@ -86,7 +86,7 @@ module _ (list : List ℕ) (b : Board) where
         ∙ is-open (openOf list)
         ∙ sym (open-persistent 0 (fields list) None b a plain)
 
-    -- no list, accepted or refused, leaves the mask persistent where it was not
+    -- no list that is run whole, accepted or refused, leaves the mask persistent where it was not
     pub call-plain : runCall list b .after .state .persistent ≡ false
     call-plain = go (eqb (verdictOf list b .number) 0) refl
       where

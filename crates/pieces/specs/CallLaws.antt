@@ -33,11 +33,11 @@ module _ (p : Pieces) (b : Board) where
 
   -- n is the number that the code has
   module _ (made : Outcome) (n : ℕ) (e : n ≡ firstNumber p b) where
-    pub unless-first : n ≢ 0 → gives (bad n 0) p b ≡ unless p b made
+    unless-first : n ≢ 0 → gives (bad n 0) p b ≡ unless p b made
     unless-first h =
         ap (λ (k : ℕ). gives (bad k 0) p b) e ∙ sym (leaves-before (firstNumber p b) (gives (bad (firstNumber p b) 0) p b) made (λ z. h (e ∙ z)))
 
-    pub unless-made : n ≡ 0 → made ≡ unless p b made
+    unless-made : n ≡ 0 → made ≡ unless p b made
     unless-made z = sym (leaves-made (firstNumber p b) (gives (bad (firstNumber p b) 0) p b) made (sym e ∙ z))
 
 -- ---- the ways out of a piece and of the last call, by what the code has
@@ -72,7 +72,7 @@ module _ (p : Pieces) (b : Board) (f : firstNumber p b ≡ 0) where
   unfolding endCall
   end-is = sym (unless-made p b _ (firstNumber p b) refl f)
 
--- ---- a call on what pieces have made
+-- ---- a call on a line that meets the rule
 
 module _ (l : Line) (h : possible l ≡ true) (b : Board) where
   made-first : firstNumber (pack l) b ≡ givenOf b

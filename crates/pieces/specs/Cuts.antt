@@ -24,25 +24,15 @@ use Rattle.pieces.specs.Calls.{Outcome, gives}
 use Rattle.pieces.specs.Cutting.{cutAnswers, cutCall}
 use Rattle.pieces.specs.CutLaws.{ends-given, ends-joined, answers-zero, new-given, new-after, new-number}
 
-module _ (list : List ℕ) (fits : length list ≤ limit) (ss : List (List ℕ)) (cut : flatten ss ≡ list) (b : Board) where
+-- ---- of any length
+
+module _ (list : List ℕ) (ss : List (List ℕ)) (cut : flatten ss ≡ list) (b : Board) where
   joined : givenOf b ≡ 0 → (let o = piece (port fresh b) list in cutCall ss b ≡ gives (atLast (o .line)) (pack fresh) (o .on))
   joined g =
       ends-joined ss fresh fresh-possible b g
       ∙ ap (λ (s : List ℕ). let o = piece (port fresh b) s in gives (atLast (o .line)) (pack fresh) (o .on)) cut
 
-  -- ---- accepted or refused
-
-  -- number and place of the last call are those of the whole-list call
-  pub cut-verdict : cutCall ss b .given ≡ verdictOf list b
-  cut-verdict = go (eqb (givenOf b) 0) refl
-    where
-      go : (t : Bool) → eqb (givenOf b) 0 ≡ t → cutCall ss b .given ≡ verdictOf list b
-      go true q = let g = eqb-true _ _ q in ap (λ (o : Outcome). o .given) (joined g) ∙ new-given list fits b g
-      go false q =
-          let n = eqb-false _ _ q in
-          ap (λ (o : Outcome). o .given) (ends-given ss fresh fresh-possible b n) ∙ sym (verdict-given list b n)
-
-  -- and the next piece starts a new list
+  -- after the last call, accepted or refused, the next piece starts a new list
   pub cut-new : cutCall ss b .pieces ≡ pack fresh
   cut-new = go (eqb (givenOf b) 0) refl
     where
@@ -50,18 +40,31 @@ module _ (list : List ℕ) (fits : length list ≤ limit) (ss : List (List ℕ))
       go true q = ap (λ (o : Outcome). o .pieces) (joined (eqb-true _ _ q))
       go false q = ap (λ (o : Outcome). o .pieces) (ends-given ss fresh fresh-possible b (eqb-false _ _ q))
 
-  -- ---- what is drawn
-
-  -- where 1 to 3 refuse, nothing
+  -- where 1 to 3 refuse, nothing is drawn
   pub cut-nothing : givenOf b ≢ 0 → cutCall ss b .after ≡ b
   cut-nothing n = ap (λ (o : Outcome). o .after) (ends-given ss fresh fresh-possible b n)
+
+-- ---- of at most 4,294,967,295 bytes
+
+module _ (list : List ℕ) (fits : length list ≤ limit) (ss : List (List ℕ)) (cut : flatten ss ≡ list) (b : Board) where
+  -- number and place of the last call are those of the whole-list call
+  pub cut-verdict : cutCall ss b .given ≡ verdictOf list b
+  cut-verdict = go (eqb (givenOf b) 0) refl
+    where
+      go : (t : Bool) → eqb (givenOf b) 0 ≡ t → cutCall ss b .given ≡ verdictOf list b
+      go true q = let g = eqb-true _ _ q in ap (λ (o : Outcome). o .given) (joined list ss cut b g) ∙ new-given list fits b g
+      go false q =
+          let n = eqb-false _ _ q in
+          ap (λ (o : Outcome). o .given) (ends-given ss fresh fresh-possible b n) ∙ sym (verdict-given list b n)
+
+  -- ---- what is drawn, where 1 to 3 pass
 
   module _ (g : givenOf b ≡ 0) where
     -- where a field is refused, what the fields before its place draw
     pub cut-before : verdict (rowsOf b) (b .state .loaded) 0 (fields list) .number ≢ 0
         → cutCall ss b .after ≡ run (cyclesOf (take (verdictOf list b .place) list)) b
     cut-before n =
-        ap (λ (o : Outcome). o .after) (joined g)
+        ap (λ (o : Outcome). o .after) (joined list ss cut b g)
         ∙ new-after list fits b g
         ∙ ap (λ (fs : List Field). run (cycles fs) b) (sym (place-passing (rowsOf b) (b .state .loaded) list n))
         ∙ ap (λ (v : Bad). run (cyclesOf (take (v .place) list)) b) (sym (verdict-fields list b g n))
@@ -69,7 +72,7 @@ module _ (list : List ℕ) (fits : length list ≤ limit) (ss : List (List ℕ))
     -- where none is, all: also where a mask is left behind
     pub cut-all : verdict (rowsOf b) (b .state .loaded) 0 (fields list) .number ≡ 0 → cutCall ss b .after ≡ run (cyclesOf list) b
     cut-all z =
-        ap (λ (o : Outcome). o .after) (joined g)
+        ap (λ (o : Outcome). o .after) (joined list ss cut b g)
         ∙ new-after list fits b g
         ∙ ap (λ (fs : List Field). run (cycles fs) b) (all-pass (rowsOf b) (b .state .loaded) 0 (fields list) z)
 
@@ -80,7 +83,7 @@ module _ (list : List ℕ) (fits : length list ≤ limit) (ss : List (List ℕ))
   cut-accepted z =
       let g = accepted-given list b z in (
         answers-zero ss fresh fresh-possible b g (ap (λ (s : List ℕ). piece (port fresh b) s .line .number) cut ∙ new-number list fits b g z),
-        ap (λ (p : Pieces). gives (cutCall ss b .given) p (cutCall ss b .after)) cut-new
+        ap (λ (p : Pieces). gives (cutCall ss b .given) p (cutCall ss b .after)) (cut-new list ss cut b)
             ∙ ap₂ (λ (v : Bad) (x : Board). gives v (pack fresh) x) (cut-verdict ∙ accepted-zeros list b z)
             (cut-all g (accepted-fields list b z) ∙ sym (call-runs list b z)),
       )

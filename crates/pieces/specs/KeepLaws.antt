@@ -1,4 +1,4 @@
--- What a byte makes of a line that pieces can make is one that they can make. Assumes nothing.
+-- What a byte makes of a line that meets the rule meets it. Assumes nothing.
 use mathlib.Core.Path.{_≡_, refl, ap, _∙_}
 use mathlib.Core.Bool.{Bool, true, false, _||_}
 use mathlib.Core.List.{List, [], _∷_, _++_}
@@ -27,13 +27,13 @@ use Rattle.pieces.specs.PackLaws.{possible-going, going-possible, stoppe
 
 -- ---- nothing held
 
-pub open-possible : (at : ℕ) (left : Open) → at ≤ limit → before left at ≡ true → possible (line [] at 0 left) ≡ true
+open-possible : (at : ℕ) (left : Open) → at ≤ limit → before left at ≡ true → possible (line [] at 0 left) ≡ true
 open-possible at left l e = going-possible (line [] at 0 left) refl (record { waiting = waits-nil; fits = omega arith; earlier = e })
 
 pub fresh-possible : possible fresh ≡ true
 fresh-possible = open-possible 0 None (omega arith) refl
 
-pub refused-possible : (n at : ℕ) → n ≢ 0 → (eqb n 4 || refusing n) ≡ true → possible (refused n at) ≡ true
+refused-possible : (n at : ℕ) → n ≢ 0 → (eqb n 4 || refusing n) ≡ true → possible (refused n at) ≡ true
 refused-possible n at h r = stopped-possible (refused n at) h (record { named = r; empty = refl; closed = refl })
 
 -- ---- a field: the numbers that it can get, and the mask load that it leaves open
@@ -51,7 +51,7 @@ before-later : (left : Open) (at n : ℕ) → before left at ≡ true → before
 before-later None at n e = refl
 before-later (At place) at n e = let l = ltb-true place at e in lt-ltb place (at + n) (omega arith)
 
-pub field-before : (at : ℕ) (f : Field) (left : Open) → before left at ≡ true → before (openBy at f left) (at + sizeOf f) ≡ true
+field-before : (at : ℕ) (f : Field) (left : Open) → before left at ≡ true → before (openBy at f left) (at + sizeOf f) ≡ true
 field-before at f left e =
     ⊎-elim (λ p. ap (λ (o : Open). before o (at + sizeOf f)) (p .0) ∙ lt-ltb at (at + sizeOf f) (omega (arith, p .1)))
     (⊎-elim (λ p. ap (λ (o : Open). before o (at + sizeOf f)) p) (λ p. ap (λ (o : Open). before o (at + sizeOf f)) p ∙ before-later left at (sizeOf f) e))

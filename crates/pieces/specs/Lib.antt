@@ -2,7 +2,7 @@
 
 -- the rule, of one byte
 pub mod Line
--- the line as the code holds it, and what pieces can make
+-- the line as the code holds it, and its rule
 pub mod Pieces
 -- the calls
 pub mod Calls
@@ -16,7 +16,7 @@ pub mod LineLaws
 pub mod MeantLaws
 -- of the line as the code holds it
 pub mod PackLaws
--- what pieces make stays what pieces can make
+-- what bytes make of a line that meets the rule meets it
 pub mod KeepLaws
 -- a whole field at the head of a piece goes at once
 pub mod WholeLaws
@@ -38,7 +38,7 @@ pub mod PlaceLaws
 pub mod Cuts
 -- from the refused field on nothing changes
 pub mod Refused
--- what calls can make is accepted
+-- what calls make meets the rule
 pub mod Reach
 -- how far a list has come
 pub mod OverLaws

@@ -1,4 +1,4 @@
--- Laws of bytes that come one after the other: what they come to is what the fields of them all come to. Assumes nothing.
+-- The rule case by case: a field, a byte, and what is answered. Assumes nothing.
 use mathlib.Core.Path.{_≡_, refl, sym, ap, _∙_}
 use mathlib.Core.Bool.{true, false}
 use mathlib.Core.List.{List, [], _∷_, _++_}

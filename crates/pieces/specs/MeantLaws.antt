@@ -31,16 +31,16 @@ use Rattle.pieces.specs.Meant.{meant, passing, ended}
 
 -- ---- field by field
 
-pub meant-nil : (at : ℕ) (left : Open) (b : Board) → meant at [] left b ≡ gives (leftBehind left) b
+meant-nil : (at : ℕ) (left : Open) (b : Board) → meant at [] left b ≡ gives (leftBehind left) b
 unfolding meant
 meant-nil at left b = refl
 
 module _ (at : ℕ) (f : Field) (fs : List Field) (left : Open) (b : Board) where
-  pub meant-run : numberOn f b ≡ 0 → meant at (f ∷ fs) left b ≡ meant (at + sizeOf f) fs (openBy at f left) (draws f b)
+  meant-run : numberOn f b ≡ 0 → meant at (f ∷ fs) left b ≡ meant (at + sizeOf f) fs (openBy at f left) (draws f b)
   unfolding meant
   meant-run z = rw (eq-eqb (numberOn f b) 0 z)
 
-  pub meant-refused : numberOn f b ≢ 0 → meant at (f ∷ fs) left b ≡ gives (bad (numberOn f b) at) b
+  meant-refused : numberOn f b ≢ 0 → meant at (f ∷ fs) left b ≡ gives (bad (numberOn f b) at) b
   unfolding meant
   meant-refused n = rw (ne-eqb (numberOn f b) 0 n)
 
@@ -113,7 +113,7 @@ module _ (f : Field) (b : Board) (g : givenOf b ≡ 0) (z : numberOn f b ≡ 0) 
     pub rows : rowsOf (draws f b) ≡ rowsOf b
     pub loaded : draws f b .state .loaded ≡ madeBy f (b .state .loaded)
 
-pub field-drawn : (f : Field) (b : Board) (g : givenOf b ≡ 0) (z : numberOn f b ≡ 0) → Drawn f b g z
+field-drawn : (f : Field) (b : Board) (g : givenOf b ≡ 0) (z : numberOn f b ≡ 0) → Drawn f b g z
 unfolding draws
 field-drawn (Reads c n) b g z =
     record {

@@ -12,13 +12,13 @@ use lib.Seq.{split-at}
 use borrow.Author.Tests.{eqb-true, eqb-false, leb-true, leb-false}
 use Rattle.refusals.specs.Refusal.{refusing}
 use Rattle.vram.specs.Board.{Board}
-use Rattle.vram.specs.Step.{givenOf, rowsOf}
+use Rattle.vram.specs.Step.{givenOf, rowsOf, run}
 use Rattle.list.specs.declared.Bad.{Bad}
 use Rattle.list.specs.declared.Open.{Open}
 use Rattle.list.specs.declared.Open.the-variants.{None, At}
 use Rattle.list.specs.Fields.{fields}
 use Rattle.list.specs.Open.{openOf}
-use Rattle.list.specs.Meaning.{bad, verdict, leftBehind, firstBad, judged, Outcome as ListOutcome}
+use Rattle.list.specs.Meaning.{bad, verdict, cycles, leftBehind, firstBad, judged, Outcome as ListOutcome}
 use Rattle.list.specs.RangeLaws.{verdict-most}
 use Rattle.list.specs.JudgeLaws.{left-none, left-at, bad-first, bad-later, bad-zero, judged-refused, judged-passed}
 use Rattle.pieces.specs.Line.{fresh, refused, Port, port, limit, feed, piece, atLast}
@@ -26,11 +26,12 @@ use Rattle.pieces.specs.LineLaws.{feed-over, refused-stays, last-kept, l
 use Rattle.pieces.specs.KeepLaws.{fresh-possible, piece-possible}
 use Rattle.pieces.specs.Pieces.{possible}
 use Rattle.pieces.specs.PackLaws.{possible-stopped}
+use Rattle.pieces.specs.Meant.{passing}
 use Rattle.pieces.specs.MeantLaws.{meant-given}
 use Rattle.pieces.specs.OverLaws.{piece-far}
 use Rattle.pieces.specs.Calls.{Outcome}
 use Rattle.pieces.specs.Cutting.{cutCall}
-use Rattle.pieces.specs.CutLaws.{ends-given, ends-joined, new-meant}
+use Rattle.pieces.specs.CutLaws.{ends-given, ends-joined, new-meant, new-after}
 
 left-number : (left : Open) (n : ℕ) → leftBehind left .number ≡ n → n ≢ 0 → n ≡ 20
 left-number None n e h = absurd (h (sym e ∙ ap (λ (v : Bad). v .number) left-none))
@@ -109,6 +110,19 @@ module _ (a : List ℕ) (x : ℕ) (t : List ℕ) (full : length a ≡ limit) (b 
       go : (u : Bool) → eqb (p .line .number) 0 ≡ u → atLast (piece p (x ∷ t) .line) ≡ firstBad v (bad 4 limit)
       go true q = after (eqb-true _ _ q)
       go false q = before (eqb-false _ _ q)
+
+  -- and what is drawn is what the fields of those bytes before the refused one draw
+  pub over-drawn : (ss : List (List ℕ)) → flatten ss ≡ a ++ x ∷ t → cutCall ss b .after ≡ run (cycles (passing (rowsOf b) (b .state .loaded) (fields a))) b
+  over-drawn ss cut =
+      ap (λ (o : Outcome). o .after) (ends-joined ss fresh fresh-possible b g)
+      ∙ ap (λ (s : List ℕ). piece (port fresh b) s .on) cut
+      ∙ ap (λ (o : Port). o .on) (foldl-append feed (port fresh b) a (x ∷ t))
+      ∙ go (eqb (p .line .number) 0) refl
+      ∙ new-after a (omega arith) b g
+    where
+      go : (u : Bool) → eqb (p .line .number) 0 ≡ u → piece p (x ∷ t) .on ≡ p .on
+      go true q = ap (λ (o : Port). o .on) (over (eqb-true _ _ q))
+      go false q = ap (λ (o : Port). o .on) (refused-stays (x ∷ t) p (eqb-false _ _ q))
 
 -- so a list that is accepted is not too long
 pub accepted-fits : (ss : List (List ℕ)) (b : Board) → cutCall ss b .given .number ≡ 0 → length (flatten ss) ≤ limit

@@ -1,4 +1,4 @@
--- Laws of the line as the code holds it, and of what pieces can make. Assumes nothing.
+-- Laws of the line as the code holds it, and of its rule. Assumes nothing.
 use mathlib.Core.Path.{_≡_, refl, sym, ap, _∙_}
 use mathlib.Core.Bool.{Bool, true, false, _&&_, _||_}
 use mathlib.Core.List.{List, [], _∷_, _++_}
@@ -20,12 +20,6 @@ use Rattle.pieces.specs.Line.{Line, line, refused, limit}
 use Rattle.pieces.specs.Pieces.{pad, pack, unpack, allZero, before, isNone, going, stopped, possible, sound}
 
 -- ---- bytes, then zeros
-
-pub pad-length : (k : ℕ) (s : List ℕ) → length (pad k s) ≡ k
-unfolding pad
-pad-length zero s = refl
-pad-length (suc k) [] = ap suc (pad-length k [])
-pad-length (suc k) (x ∷ s) = ap suc (pad-length k s)
 
 pub take-pad : (k : ℕ) (s : List ℕ) → length s ≤ k → take (length s) (pad k s) ≡ s
 unfolding pad
@@ -76,7 +70,7 @@ module _ (s : List ℕ) (i : ℕ) (h : i < length s) where
   unfolding allZero
   zero-bad e = rw (drop-cons s i 0 h, ne-eqb (getD s i 0) 0 e)
 
--- ---- a line that pieces can make, by what it says
+-- ---- a line that meets the rule, by what it says
 
 pub record Going (l : Line) : Type 0 where
   pub waiting : waits (l .held) ≡ true
@@ -134,7 +128,7 @@ going-is h n start left l m f = ap (λ (t : Bool). (waits (take n h) && t) && be
     same-fits false e = lt-leb (start + length (take n h)) limit (omega (arith, leb-false n (limit - start) e, length-take n h))
 
 -- at most twelve bytes are held
-pub possible-few : (l : Line) → possible l ≡ true → length (l .held) < 13
+possible-few : (l : Line) → possible l ≡ true → length (l .held) < 13
 possible-few l h = go (eqb (l .number) 0) refl
   where
     go : (t : Bool) → eqb (l .number) 0 ≡ t → length (l .held) < 13
@@ -157,12 +151,12 @@ module _ (l : Line) (h : possible l ≡ true) where
   pub sound-pack : Sound (pack l)
   sound-pack = record { whole = ap pack unpack-pack; line = ap possible unpack-pack ∙ h }
 
-  -- what pieces have made is never refused with 1
+  -- and the test lets it through
   pub made-sound : sound (pack l) ≡ true
   unfolding sound
   made-sound = rw (drop-pad 13 (l .held) few) (ap possible unpack-pack ∙ h)
 
--- what the test lets through, pieces can make
+-- what the test lets through meets the rule
 pub sound-possible : (p : Pieces) → sound p ≡ true → possible (unpack p) ≡ true
 unfolding sound
 sound-possible p h = both (allZero (drop (p .count) (p .held))) (possible (unpack p)) h .1

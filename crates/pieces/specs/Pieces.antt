@@ -1,4 +1,4 @@
--- The line as the code holds it, and which of them pieces can make. Assumes nothing.
+-- The line as the code holds it, and the rule of a line: every line that pieces make meets it (`reached-sound`). Assumes nothing.
 use Prim.Native.Nat.{ℕ, zero, suc, _+_}
 use mathlib.Core.Bool.{Bool, true, false, _&&_, _||_, cond}
 use mathlib.Core.List.{List, [], _∷_}
@@ -27,7 +27,7 @@ pack l = packed (l .held) (l .start) (l .number) (l .left)
 abbrev pub unpack : Pieces → Line
 unpack p = line (take (p .count) (p .held)) (p .start) (p .number) (p .left)
 
--- ---- what pieces can make
+-- ---- the rule
 
 unfoldable pub allZero : List ℕ → Bool
 allZero [] = true

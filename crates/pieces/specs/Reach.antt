@@ -1,4 +1,4 @@
--- What calls can make of a fresh line is never refused with 1: whatever calls, in whatever order, on whatever boards. Change request M-109.
+-- What calls make of a fresh line meets the rule, so that no call is refused with 1 for it: whatever calls, in whatever order, on whatever boards. Change request M-109.
 -- Assumes nothing.
 use mathlib.Core.Path.{_≡_, refl, sym, ap, _∙_}
 use mathlib.Core.Bool.{Bool, true, false}
@@ -30,7 +30,7 @@ after p (End b) = endCall p b .pieces
 abbrev pub reached : List Call → Pieces
 reached cs = foldl after (pack fresh) cs
 
--- each leaves a line that pieces can make one that they can make
+-- each makes of a line that meets the rule one that meets it
 pub call-keeps : (p : Pieces) → Sound p → (c : Call) → Sound (after p c)
 call-keeps p k (Take s b) = go (eqb (firstNumber p b) 0) refl
   where

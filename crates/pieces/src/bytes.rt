@@ -9,6 +9,7 @@ ghost use Rattle.pieces.specs.Line.{port, come, feed};
 ghost use Rattle.pieces.specs.Pieces.{pack, unpack};
 ghost use Rattle.pieces.specs.PackLaws.{Sound};
 ghost use Rattle.pieces.specs.Turns.{Meets, Held};
+use crate::LIMIT;
 use crate::Pieces;
 use crate::field::Met;
 use crate::field::meet;
@@ -86,7 +87,7 @@ pub(crate) fn feed(p: Pieces, state: Vram, memory: &mut [u16], serial: &mut [u16
     if p.number != numbers::DONE {
         return Moved { pieces: p, state };
     }
-    if 4294967295 - start <= (count as u32) {
+    if LIMIT - start <= (count as u32) {
         let pieces = standing(numbers::FIELD_UNREADABLE, start, left);
         return Moved { pieces, state };
     }

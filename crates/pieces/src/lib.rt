@@ -23,6 +23,12 @@ use rule::sound;
 use vram::Vram;
 use whole::take_all;
 
+// A list has at most this many bytes.
+pub(crate) const LIMIT: u32 = 4294967295;
+
+// The limit less the longest field: a field that begins here ends within it.
+pub(crate) const SAFE: u32 = 4294967282;
+
 // Where a list stands between two pieces: the unfinished field's bytes and zeros after them, how many are held, the field's offset in the
 // list, the number that the list was refused with at that offset or 0, and the mask load that is still open.
 pub struct Pieces {

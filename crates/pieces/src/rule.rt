@@ -1,4 +1,4 @@
-// What pieces can make: a state of the line that they cannot is refused with 1 before anything else.
+// The rule of a line: every line that pieces make meets it, and another is refused with 1 before anything else.
 ghost use mathlib.Core.Path.{_≡_};
 ghost use mathlib.Core.Bool.{_&&_, _||_};
 ghost use lib.Dec.{eqb};
@@ -6,6 +6,7 @@ ghost use lib.ListN.{length, take, drop};
 ghost use Rattle.refusals.specs.Refusal.{refusing};
 ghost use Rattle.pieces.specs.Line.{line};
 ghost use Rattle.pieces.specs.Pieces.{allZero, before, isNone, going, stopped, sound};
+use crate::LIMIT;
 use crate::Pieces;
 use list::Open;
 use list::fields::waits;
@@ -52,7 +53,7 @@ fn going(held: &[u8; 13], n: usize, start: u32, left: Open) -> bool
     if 12 < n {
         return false;
     }
-    let fits = (n as u32) <= 4294967295 - start;
+    let fits = (n as u32) <= LIMIT - start;
     let earlier = before(left, start);
     waits(&s[..n]) & fits & earlier
 }
@@ -67,7 +68,7 @@ fn stopped(number: u32, n: usize, left: Open) -> bool
         & closed
 }
 
-// Whether pieces could make it.
+// Whether a line meets the rule.
 pub(crate) fn sound(p: Pieces) -> bool
     ensures { λ r. ⌜ (r ≡ sound p) × (length (p .held) ≡ 13) ⌝ }
 {

@@ -11,6 +11,7 @@ ghost use Rattle.pieces.specs.Pieces.{pack, unpack, packed, possible};
 ghost use Rattle.pieces.specs.PackLaws.{Sound};
 ghost use Rattle.pieces.specs.Turns.{standing, Along};
 use crate::Pieces;
+use crate::SAFE;
 use crate::bytes::Moved;
 use crate::bytes::feed;
 use crate::field::meet;
@@ -54,7 +55,7 @@ fn whole_fields(
     let mut opened = left;
     let mut current = state;
     loop {
-        if 4294967282 < at {
+        if SAFE < at {
             return reached(numbers::DONE, at, opened, current, used);
         }
         let f = meet(at, opened, current, memory, serial, &bytes[used..]);

@@ -30,9 +30,9 @@ use Rattle.pieces_c.specs.Calls.{Answered, answered, answerOf}
 use Rattle.pieces_c.specs.CallLaws.{take-handed, end-handed, take-excluded, end-excluded}
 use Rattle.pieces_c.specs.Cutting.{ends, cutCall}
 
--- ---- on what was handed to C the calls are those below
+-- ---- on what was handed to C the calls are those below: so all that `pieces` says of a cutting holds of one in C
 
-ends-handed : (ss : List (List ℕ)) (v : Vram) (p : Below) (m q : List ℕ) → ends ss (handed v) (handedLine p) m q ≡ answerOf (belowEnds ss p (board v m q))
+pub ends-handed : (ss : List (List ℕ)) (v : Vram) (p : Below) (m q : List ℕ) → ends ss (handed v) (handedLine p) m q ≡ answerOf (belowEnds ss p (board v m q))
 unfolding ends
 ends-handed [] v p m q = end-handed v p m q ∙ ap answerOf (sym (belowNone p (board v m q)))
 ends-handed (piece ∷ ss) v p m q =

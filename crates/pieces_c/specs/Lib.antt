@@ -10,5 +10,5 @@ pub mod CallLaws
 pub mod Cutting
 -- every cutting, for C
 pub mod Cuts
--- what C's calls can make is accepted
+-- what C's calls make meets the rule
 pub mod Reach

@@ -23,7 +23,7 @@ takenLine p =
     record { held = p .held; count = p .count; start = p .start; number = p .number; left = cond (eqb (p .«open») 0) None (At (p .left)) }
 
 -- with its open mask load: 0 none, 1 one
-abbrev pub handedWith : Below → ℕ → ℕ → Pieces
+abbrev handedWith : Below → ℕ → ℕ → Pieces
 handedWith p isOpen left = record { left = left; start = p .start; number = p .number; held = p .held; count = p .count; «open» = isOpen }
 
 abbrev pub handedBy : Open → Below → Pieces

@@ -1,5 +1,5 @@
--- What C's calls make of a fresh line is never refused with 1: whatever calls, in whatever order, on whatever state and memory, also ones
--- that are refused. Change request M-109. Assumes nothing.
+-- What C's calls make of a fresh line meets the rule, so that no call is refused with 1 for it: whatever calls, in whatever order, on whatever
+-- state and memory, also ones that are refused. Change request M-109. Assumes nothing.
 use Prim.Native.Nat.{ℕ}
 use mathlib.Core.Path.{_≡_, refl, sym, ap, _∙_}
 use mathlib.Core.Bool.{Bool, true, false, _&&_}
@@ -33,7 +33,7 @@ after p (End s m q) = endCall s p m q .answer .pieces
 abbrev pub reached : List Call → Pieces
 reached cs = foldl after (handedLine (pack fresh)) cs
 
--- it was handed to C, and pieces can make it
+-- it was handed to C, and meets the rule
 record Made (p : Pieces) : Type 0 where
   line : Below
   good : Sound line

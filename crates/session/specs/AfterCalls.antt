@@ -19,8 +19,8 @@ use Rattle.pieces_c.specs.Cuts.{pieces-plain}
 use Rattle.host.specs.CallLaws.{clock-plain, panel-plain}
 use Rattle.session.specs.Session.{Call, list, marked, pencil, pencilMarked, pieces, clock, panel, after, session, Settled, AllSettled}
 
--- ---- no call, accepted or refused, makes a mask persistent that was not; but a list in pieces has to be accepted, since the fields before
--- a refused one stay drawn, its mask load among them
+-- ---- no call, accepted or refused, makes a mask persistent that was not; but a list in pieces, which here has no other call between its
+-- pieces, has to be accepted, since the fields before a refused one stay drawn, its mask load among them
 
 module _ (s : Registers) (e : s .persistent ≡ 0) where
   after-plain : (c : Call) → Settled c s → after c s .persistent ≡ 0

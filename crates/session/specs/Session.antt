@@ -1,5 +1,5 @@
 -- The calls that take the video RAM's state from C and hand it back, one after the other; a list in pieces counts as one of them, all its
--- pieces and the last call. Assumes nothing.
+-- pieces and the last call with no other call between. Assumes nothing.
 use Prim.Native.Nat.{ℕ}
 use mathlib.Core.Path.{_≡_}
 use mathlib.Core.List.{List, [], _∷_}
