@@ -3,6 +3,7 @@
 # stands. Then the page is changed in some ways, a figure or a byte each, and must not pass.
 #   protocol.sh PAGE PROGRAM...
 set -euo pipefail
+. "$(dirname "$0")/changed.sh"
 page=$1
 shift
 
@@ -20,14 +21,6 @@ holds() {
 
 program=("$@")
 holds "$page" || { for who in library model; do "${program[@]}" "$who" < "$page" | diff - <(figures "$page") || true; done; echo "$page does not hold"; exit 1; }
-damaged=$(mktemp)
-trap 'rm -f "$damaged"' EXIT
-tried=0
-for change in 's/^take 04 00: 0/take 04 01: 0/' 's/12 held from 6/11 held from 6/' 's/^word 5: 0034/word 5: 1234/' 's/4 at 13; 0 held/4 at 0; 0 held/' \
-    's/^end: 4 at 6/end: 20 at 0/' 's/^end: 20 at 0/end: 0 at 0/' 's/open from 0$/none open/' 's/^persistent: 1/persistent: 0/'; do
-    sed "$change" "$page" > "$damaged"
-    ! cmp -s "$page" "$damaged" || { echo "$change changes nothing in $page"; exit 1; }
-    ! holds "$damaged" || { echo "$page passes after $change"; exit 1; }
-    tried=$((tried + 1))
-done
+changed "$page" 's/^take 04 00: 0/take 04 01: 0/' 's/12 held from 6/11 held from 6/' 's/^word 5: 0034/word 5: 1234/' 's/4 at 13; 0 held/4 at 0; 0 held/' \
+    's/^end: 4 at 6/end: 20 at 0/' 's/^end: 20 at 0/end: 0 at 0/' 's/open from 0$/none open/' 's/^persistent: 1/persistent: 0/'
 echo "the cuttings of $page hold, and none of $tried changed pages does"
