@@ -6,7 +6,7 @@ use mathlib.Core.List.{List}
 use mathlib.Core.Logic.{_≢_}
 use native.Mathlib.Omega.{arith}
 use lib.Dec.{eqb, leb}
-use borrow.Author.Tests.{eqb-true, eqb-false, leb-true}
+use borrow.Author.Tests.{eq-eqb, ne-eqb, eqb-true, eqb-false, leb-true}
 use Rattle.numbers.specs.Between.{both}
 use Rattle.vram.specs.declared.Vram.{Vram}
 use Rattle.vram.specs.Board.{board}
@@ -26,6 +26,15 @@ use Rattle.pieces_c.specs.Line.{lineLawful, takenLine, handedBy, handedL
 use Rattle.pieces_c.specs.Calls.{Answered, answered, answerOf, taking, takeCall, endCall}
 
 -- ---- the line, there and back
+
+module _ (p : Pieces) where
+  pub taken-none : p .«open» ≡ 0 → record { held = p .held; count = p .count; start = p .start; number = p .number; left = None } ≡ takenLine p
+  unfolding takenLine
+  taken-none z = rw (eq-eqb (p .«open») 0 z)
+
+  pub taken-at : p .«open» ≢ 0 → record { held = p .held; count = p .count; start = p .start; number = p .number; left = At (p .left) } ≡ takenLine p
+  unfolding takenLine
+  taken-at n = rw (ne-eqb (p .«open») 0 n)
 
 pub line-handed-taken : (p : Pieces) → lineLawful p ≡ true → handedLine (takenLine p) ≡ p
 unfolding lineLawful takenLine handedLine
