@@ -54,3 +54,5 @@ pub mod MoreLaws
 pub mod HeadLaws
 -- numbers and places stay in range; when 20 is given
 pub mod RangeLaws
+-- on boards that differ in low bytes alone
+pub mod HighLaws

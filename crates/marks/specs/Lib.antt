@@ -26,3 +26,5 @@ pub mod Visits
 pub mod LinkLaws
 -- the link has the memory
 pub mod Link
+-- on boards that differ in low bytes alone
+pub mod HighLaws

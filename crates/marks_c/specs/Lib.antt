@@ -10,3 +10,5 @@ pub mod Runs
 pub mod RunLaws
 -- what a link in C relies on
 pub mod Link
+-- on memories and serial registers that agree in every high byte
+pub mod HighLaws

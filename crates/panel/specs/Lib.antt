@@ -18,3 +18,5 @@ pub mod CallLaws
 pub mod InTwo
 -- the two runs: the same answer, the bytes of one by the bytes of the other
 pub mod WidthLaws
+-- on serial registers that differ in low bytes alone
+pub mod HighLaws

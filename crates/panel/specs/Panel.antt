@@ -5,7 +5,7 @@ use mathlib.Core.Bool.{not, cond}
 use mathlib.Core.List.{List, [], _∷_}
 use lib.Dec.{eqb}
 use lib.Bits.{bitAnd}
-use lib.ListN.{replicate}
+use lib.ListN.{take, drop, replicate}
 use Rattle.words.specs.Bit.{bit, ofBits}
 use Rattle.words.specs.Word.{high}
 use Rattle.vram.specs.declared.Vram.{Vram}
@@ -72,6 +72,10 @@ shown p k s r = bytesOf p (clockedWords k s r)
 
 abbrev pub zeros : ℕ → List ℕ
 zeros n = replicate n 0
+
+-- the three bytes of pixel i in an answer buffer
+abbrev pub pixelAt : ℕ → List ℕ → List ℕ
+pixelAt i out = take 3 (drop (3 * i) out)
 
 -- blank: 0 no, any other number yes
 abbrev pub runBytes : Panel → ℕ → ℕ → Vram → List ℕ → List ℕ

@@ -13,6 +13,8 @@ use Rattle.vram.specs.Memory.{put, puts}
 use Rattle.vram.specs.MemoryLaws.{put-is, puts-none, puts-next}
 use Rattle.vram.specs.Board.{Board, board, inForce, allowed, effect}
 use Rattle.vram.specs.CaseLaws.{effect-word, effect-block}
+use Rattle.vram.specs.High.{KeepsTwins}
+use Rattle.vram.specs.HighLaws.{effect-twins}
 use Rattle.pencil.specs.Bits.{bitsLeft}
 use Rattle.pencil.specs.BitLaws.{written-merged, left-bit}
 use Rattle.pencil.specs.Memory.{wordWritten, blockWritten}
@@ -65,3 +67,7 @@ pencil-effect ResetRefresh b = refl
 pencil-effect (FullTransfer row half tap) b = refl
 pencil-effect (SplitTransfer row half tap) b = refl
 pencil-effect (StopPoints length) b = refl
+
+-- so it keeps twins as that does
+pub pencil-twins : KeepsTwins pencil
+pencil-twins c a b t = rw (pencil-effect c a, pencil-effect c b) (effect-twins c a b t)

@@ -18,6 +18,7 @@ use Rattle.pieces.specs.declared.Pieces.{Pieces}
 use Rattle.pieces.specs.Line.{fresh, port, limit, piece, atLast}
 use Rattle.pieces.specs.Pieces.{pack}
 use Rattle.pieces.specs.KeepLaws.{fresh-possible}
+use Rattle.pieces.specs.Meant.{passing}
 use Rattle.pieces.specs.MeantLaws.{all-pass}
 use Rattle.pieces.specs.PlaceLaws.{place-passing}
 use Rattle.pieces.specs.Calls.{Outcome, gives}
@@ -60,21 +61,21 @@ module _ (list : List ℕ) (fits : length list ≤ limit) (ss : List (List ℕ))
   -- ---- what is drawn, where 1 to 3 pass
 
   module _ (g : givenOf b ≡ 0) where
+    -- the fields before the first that is refused, all where none is
+    pub cut-passing : cutCall ss b .after ≡ run (cycles (passing (rowsOf b) (b .state .loaded) (fields list))) b
+    cut-passing = ap (λ (o : Outcome). o .after) (joined list ss cut b g) ∙ new-after list fits b g
+
     -- where a field is refused, what the fields before its place draw
     pub cut-before : verdict (rowsOf b) (b .state .loaded) 0 (fields list) .number ≢ 0
         → cutCall ss b .after ≡ run (cyclesOf (take (verdictOf list b .place) list)) b
     cut-before n =
-        ap (λ (o : Outcome). o .after) (joined list ss cut b g)
-        ∙ new-after list fits b g
+        cut-passing
         ∙ ap (λ (fs : List Field). run (cycles fs) b) (sym (place-passing (rowsOf b) (b .state .loaded) list n))
         ∙ ap (λ (v : Bad). run (cyclesOf (take (v .place) list)) b) (sym (verdict-fields list b g n))
 
     -- where none is, all: also where a mask is left behind
     pub cut-all : verdict (rowsOf b) (b .state .loaded) 0 (fields list) .number ≡ 0 → cutCall ss b .after ≡ run (cyclesOf list) b
-    cut-all z =
-        ap (λ (o : Outcome). o .after) (joined list ss cut b g)
-        ∙ new-after list fits b g
-        ∙ ap (λ (fs : List Field). run (cycles fs) b) (all-pass (rowsOf b) (b .state .loaded) 0 (fields list) z)
+    cut-all z = cut-passing ∙ ap (λ (fs : List Field). run (cycles fs) b) (all-pass (rowsOf b) (b .state .loaded) 0 (fields list) z)
 
   -- ---- accepted: every call gives 0, and state, memory and serial register are those of the whole-list call
 

@@ -44,3 +44,7 @@ pub mod Reach
 pub mod OverLaws
 -- a list that is too long
 pub mod Over
+-- on boards that differ in low bytes alone
+pub mod HighLaws
+-- writes of results alone leave every mark
+pub mod SpareLaws

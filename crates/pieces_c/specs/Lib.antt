@@ -12,3 +12,5 @@ pub mod Cutting
 pub mod Cuts
 -- what C's calls make meets the rule
 pub mod Reach
+-- on memories and serial registers that agree in every high byte
+pub mod HighLaws

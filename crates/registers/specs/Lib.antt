@@ -8,3 +8,5 @@ pub mod StateLaws
 pub mod Lists
 -- of the same
 pub mod ListLaws
+-- on memories and serial registers that agree in every high byte
+pub mod HighLaws

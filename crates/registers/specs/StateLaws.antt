@@ -106,6 +106,15 @@ pub taking-same : {A : Type 0} (made other : Vram → A) (excluded : A) (s : Reg
     → taking s made excluded ≡ taking s other excluded
 taking-same made other excluded s h = ap (λ x. cond (lawful s) x excluded) (h (taken s))
 
+-- what holds of two calls on one state, of both where they are done and of both where the state is excluded, holds of them
+pub taking-both : {A : Type 0} (P : A → A → Type 0) (s : Registers) (made other : Vram → A) (x y : A)
+    → P (made (taken s)) (other (taken s)) → P x y → P (taking s made x) (taking s other y)
+taking-both P s made other x y f g = go (lawful s)
+  where
+    go : (t : Bool) → P (cond t (made (taken s)) x) (cond t (other (taken s)) y)
+    go true = f
+    go false = g
+
 -- ---- persistence: a state that is not persistent is handed to C with 0, and taken from 0
 
 pub handed-plain : (v : Vram) → v .persistent ≡ false → handed v .persistent ≡ 0

@@ -52,7 +52,11 @@ pub mod HalfLaws
 pub mod CallLaws
 -- the definitions case by case, for other crates
 pub mod CaseLaws
+-- boards that differ in low bytes alone, and cycles that reach no high byte
+pub mod High
 -- high bytes depend on high bytes
 pub mod HighLaws
+-- writes of results alone leave every mark
+pub mod SpareLaws
 -- the sheet's worked block write, and its table of stop points
 pub mod Sheet

@@ -1,11 +1,11 @@
 -- Laws of words: the definitions read bit by bit, and what a merge keeps of a byte. Assumes nothing.
-use mathlib.Core.Path.{_≡_, refl, sym, ap, _∙_}
+use mathlib.Core.Path.{_≡_, refl, sym, ap, ap₂, _∙_}
 use mathlib.Core.Bool.{Bool, true, false, cond}
-use Prim.Native.Nat.{ℕ, _+_, _*_, _/_, _^_, _<_}
+use Prim.Native.Nat.{ℕ, _+_, _*_, _/_, _^_, _≤_, _<_}
 use native.Mathlib.Omega.{arith}
 use lib.Pow.{shr-lt}
 use Rattle.words.specs.Bit.{bit, ofBits}
-use Rattle.words.specs.BitLaws.{bit-shr, bit-ones, bits-eq, of-bits, bit-ofBits, ofBits-lt, ofBits-cong}
+use Rattle.words.specs.BitLaws.{bit-shr, bit-ones, bit-above, bits-eq, of-bits, bit-ofBits, ofBits-lt, ofBits-cong}
 use Rattle.words.specs.Word.{merged, covers, lets, high}
 
 -- ---- a merge, bit by bit
@@ -64,6 +64,11 @@ pub covers-both : (b : ℕ) → b < 16 → covers 3 b ≡ true
 unfolding covers
 covers-both b h = bit-ones 2 (b / 8) (omega arith)
 
+-- the low byte's strobe covers no bit of the high byte
+pub covers-low : (b : ℕ) → 8 ≤ b → covers 1 b ≡ false
+unfolding covers
+covers-low b h = bit-above 1 1 (b / 8) (omega arith) (omega arith)
+
 -- a column mask that is known by its bits
 pub lets-bit : (f : ℕ → Bool) (j b : ℕ) → j < 4 → b < 16 → lets (ofBits 16 f) j b ≡ f (4 * (b / 4) + j)
 unfolding lets
@@ -77,20 +82,27 @@ mask-bit mask w e b h = ap (λ (n : ℕ). bit n b) e ∙ bit-ofBits 16 w b h
 pub merged-by-mask : (old new mask : ℕ) (w : ℕ → Bool) → mask ≡ ofBits 16 w → merged old new (bit mask) ≡ merged old new w
 merged-by-mask old new mask w e = merged-cong old new (bit mask) w (mask-bit mask w e)
 
--- ---- the high byte of a merge is given by the old high byte
+-- ---- the high byte of a merge is given by high bytes
 
 high-bit : (x new : ℕ) (w : ℕ → Bool) (b : ℕ) → b < 8
-    → bit (merged x new w / 2 ^ 8) b ≡ cond (w (8 + b)) (bit new (8 + b)) (bit (x / 2 ^ 8) b)
+    → bit (merged x new w / 2 ^ 8) b ≡ cond (w (8 + b)) (bit (new / 2 ^ 8) b) (bit (x / 2 ^ 8) b)
 high-bit x new w b h =
     bit-shr (merged x new w) 8 b
     ∙ merged-bit x new w (8 + b) (omega arith)
-    ∙ ap (λ (t : Bool). cond (w (8 + b)) (bit new (8 + b)) t) (sym (bit-shr x 8 b))
+    ∙ ap₂ (cond (w (8 + b))) (sym (bit-shr new 8 b)) (sym (bit-shr x 8 b))
 
-pub merged-high : (x y new : ℕ) (w : ℕ → Bool) → high x ≡ high y → high (merged x new w) ≡ high (merged y new w)
+pub merged-high : (x y u v : ℕ) (w : ℕ → Bool) → high x ≡ high y → high u ≡ high v → high (merged x u w) ≡ high (merged y v w)
 unfolding high
-merged-high x y new w e =
-    bits-eq 8 (merged x new w / 2 ^ 8) (merged y new w / 2 ^ 8) (shr-lt 8 8 (merged-lt x new w)) (shr-lt 8 8 (merged-lt y new w))
-    (λ b h. high-bit x new w b h ∙ ap (λ (n : ℕ). cond (w (8 + b)) (bit new (8 + b)) (bit n b)) e ∙ sym (high-bit y new w b h))
+merged-high x y u v w e f =
+    bits-eq 8 (merged x u w / 2 ^ 8) (merged y v w / 2 ^ 8) (shr-lt 8 8 (merged-lt x u w)) (shr-lt 8 8 (merged-lt y v w))
+    (λ b h. high-bit x u w b h ∙ ap₂ (λ (m n : ℕ). cond (w (8 + b)) (bit m b) (bit n b)) f e ∙ sym (high-bit y v w b h))
+
+-- and is the old high byte where no bit of it is let through
+pub merged-low : (x new : ℕ) (w : ℕ → Bool) → x < 2 ^ 16 → ((b : ℕ) → 8 ≤ b → w b ≡ false) → high (merged x new w) ≡ high x
+unfolding high
+merged-low x new w l h =
+    bits-eq 8 (merged x new w / 2 ^ 8) (x / 2 ^ 8) (shr-lt 8 8 (merged-lt x new w)) (shr-lt 8 8 l)
+    (λ b k. high-bit x new w b k ∙ ap (λ (t : Bool). cond t (bit (new / 2 ^ 8) b) (bit (x / 2 ^ 8) b)) (h (8 + b) (omega arith)))
 
 pub high-is : (w : ℕ) → high w ≡ w / 256
 unfolding high
