@@ -2,6 +2,7 @@
  * memory. */
 #include "both.h"
 #include "compare.h"
+#include "inputs.h"
 #include "model.h"
 #include "tries.h"
 

@@ -178,19 +178,27 @@ static void run_field(linkshoar_vram *s, uint16_t *memory, uint16_t *serial, mod
 {
     switch (f.tag) {
     case 1:
-        for (int i = 0; i < 16; i++)
+        for (int i = 0; i < 16; i++) {
+            uint16_t *word = &memory[512 * f.row + f.column];
             if (let_through(*s, f, i))
-                put_bit(&memory[512 * f.row + f.column], i, bit(f.data, i));
+                put_bit(word, i, bit(f.data, i));
+            else if (FAULT == 97 && i >= 8) /* what is left of the mark takes the result's bits */
+                put_bit(word, i, bit(*word, i - 8));
+        }
         break;
     case 2:
         for (int j = 0; j < 4; j++)
             for (int i = 0; i < 16; i++) {
+                uint16_t *word = &memory[512 * f.row + f.column / 4 * 4 + (unsigned)j];
                 int column = bit(f.data, 4 * (i / 4) + j);
 #if FAULT == 1 /* one four-bit column mask for all quads */
                 column = bit(f.data, j);
+#elif FAULT == 98 /* whether the mark is written goes by the result's lowest bit */
+                if (i >= 8)
+                    column = bit(*word, 0);
 #endif
                 if (column && let_through(*s, f, i))
-                    put_bit(&memory[512 * f.row + f.column / 4 * 4 + (unsigned)j], i, bit(s->colour, i));
+                    put_bit(word, i, bit(s->colour, i));
             }
         break;
     case 3:
@@ -210,8 +218,11 @@ static void run_field(linkshoar_vram *s, uint16_t *memory, uint16_t *serial, mod
         s->persistent = 0;
         break;
     case 6:
-        for (unsigned i = 0; i < 256; i++)
+        for (unsigned i = 0; i < 256; i++) {
             serial[i] = memory[512 * f.row + 256 * f.half + i];
+            if (FAULT == 99 && serial[i] % 256 == 255) /* over a result of 255 the mark is lost */
+                serial[i] = 255;
+        }
         s->loaded = 1;
         s->pointer = (uint8_t)f.tap;
         s->waiting = 0;
@@ -243,6 +254,8 @@ static void run_field(linkshoar_vram *s, uint16_t *memory, uint16_t *serial, mod
 uint32_t model_field_run(linkshoar_vram *s, uint16_t *memory, size_t words, uint16_t *serial, const uint8_t *field, size_t bytes)
 {
     uint32_t number = field_number(field, bytes, words / 512, s->loaded);
+    if (FAULT == 101 && !number && field[0] == 1 && memory[0] % 256 < 8) /* a number that goes by a result */
+        number = 8;
     if (!number)
         run_field(s, memory, serial, model_field_read(field));
     return number;
@@ -255,6 +268,8 @@ static void pencil_word(uint16_t *word, unsigned data, unsigned mask, unsigned s
 {
     for (int i = 0; i < (FAULT == 71 ? 15 : 16); i++) { /* one bit short */
         int strobe = FAULT == 72 ? bit(strobes, 1) : bit(strobes, i / 8); /* the high strobe on the low byte */
+        if (FAULT == 100 && i == 8 && bit(*word, 0)) /* over an odd result the low byte's strobe covers bit 8 */
+            strobe = strobe || bit(strobes, 0);
         if (strobe && bit(mask, i))
             put_bit(word, i, bit(data, i));
     }
@@ -646,6 +661,9 @@ static unsigned entry_of(unsigned word, unsigned mask)
 #elif FAULT == 24 /* 254 in reverse too */
     if (high == 254)
         high = 255;
+#elif FAULT == 102 /* over a result of 200 and more the mark does not show */
+    if (high != 255 && low >= 200)
+        high = 0;
 #endif
     return (high == 0 ? low : high == 255 ? reverse : high) & mask;
 }

@@ -2,7 +2,8 @@
  * from the proved code. The test program compares the two. FAULT plants one error: 1 to 6 those that document 01 lists or that earlier
  * versions had, 7 to 17 the Am8150's, 18 to 20 those of a palette read, 21 to 24 those of reverse video, 25 to 29 those of parts of eight
  * bits, 30 to 38 those of stop points, 39 to 46 those of masks left behind, 47 to 55 those of a page, 56 to 68 those of marks of rows, 69 to
- * 78 those of the plain engine, 79 to 96 those of lists in pieces. Each must be found. */
+ * 78 those of the plain engine, 79 to 96 those of lists in pieces, 97 to 102 results that reach a mark, a number or a mark's pixel. Each must
+ * be found. */
 #ifndef MODEL_H
 #define MODEL_H
 

@@ -1,6 +1,7 @@
 /* The plain engine: its lists at random against the second implementation's, and against the library's own fast engine. */
 #include "both.h"
 #include "compare.h"
+#include "inputs.h"
 #include "model.h"
 #include "tries.h"
 

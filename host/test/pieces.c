@@ -3,6 +3,7 @@
 #include "both.h"
 #include "compare.h"
 #include "cutting.h"
+#include "inputs.h"
 #include "model.h"
 #include "tries.h"
 

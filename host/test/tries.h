@@ -23,8 +23,4 @@ void try_saved(void);      /* saved.c: a palette saved by reading, written back 
 void try_controller(void); /* controller.c: a random session of the Am8150 */
 void try_frame(void);      /* controller.c: frames of the Am8150, against the address of each word in closed form */
 
-/* What these take at random. */
-linkshoar_vram some_vram(void);  /* test.c: a state, now and then one that the rules exclude */
-size_t some_list(uint32_t rows); /* test.c: a list for both; how many bytes of it are lent */
-
 #endif

@@ -1,7 +1,7 @@
 -- The same for C: on two boards whose memories and serial registers agree in every high byte, whatever the exports are given besides, the same on
 -- both, and in whatever order they are called. Change request M-110. Assumes nothing.
 use Prim.Native.Nat.{ℕ}
-use mathlib.Core.Path.{_≡_}
+use mathlib.Core.Path.{_≡_, refl}
 use mathlib.Core.List.{List, [], _∷_}
 use lib.ListN.{length}
 use Rattle.words.specs.Word.{high}
@@ -11,19 +11,21 @@ use Rattle.vram.specs.High.{Agree}
 use Rattle.vram.specs.HighLaws.{read-number, read-high}
 use Rattle.palette.specs.declared.Palette.{Palette}
 use Rattle.panel.specs.declared.Width.{Width}
+use Rattle.panel.specs.declared.Width.the-variants.{Six, Eight}
 use Rattle.panel.specs.Panel.{partAt}
 use Rattle.registers.specs.declared.Registers.{Registers}
 use Rattle.registers.specs.State.{taken}
-use Rattle.registers.specs.Lists.{listCallBy}
+use Rattle.registers.specs.Lists.{listCallBy, listCall}
 use Rattle.registers.specs.HighLaws.{list-twins}
-use Rattle.marks_c.specs.Calls.{markedCallBy}
+use Rattle.marks_c.specs.Calls.{markedCallBy, markedCall}
 use Rattle.marks_c.specs.HighLaws.{marked-twins}
+use Rattle.pencil_c.specs.Calls.{pencilCall, pencilMarkedCall}
 use Rattle.pieces_c.specs.declared.Pieces.{Pieces}
 use Rattle.pieces_c.specs.Calls.{takeCall, endCall}
 use Rattle.pieces_c.specs.HighLaws.{take-twins, end-twins}
-use Rattle.host.specs.Calls.{clockCall, panelCallBy}
+use Rattle.host.specs.Calls.{clockCall, panelCallBy, panelCall, panelSixCall}
 use Rattle.host.specs.HighLaws.{TwinClocked, clock-twins, TwinShown, panel-twins}
-use Rattle.marks_apart.specs.Ways.{Which, engineOf}
+use Rattle.marks_apart.specs.Ways.{Which, fast, plain, engineOf}
 use Rattle.marks_apart.specs.WayLaws.{engine-twins}
 
 -- ---- the exports that are lent a memory or a serial register, each with all else that it is given: a state and a line of any bytes, also such as
@@ -60,6 +62,31 @@ left (end state pieces) x = let o = endCall state pieces (x .memory) (x .serial)
 left (panel width state palette table clocks blank) x = x
 left (clock state) x = x
 left (read row column strobes) x = x
+
+-- by the names of their contracts
+pub fast-list : listCallBy (engineOf fast) ≡ listCall
+unfolding engineOf
+fast-list = refl
+
+pub plain-list : listCallBy (engineOf plain) ≡ pencilCall
+unfolding engineOf
+plain-list = refl
+
+pub fast-marked : markedCallBy (engineOf fast) ≡ markedCall
+unfolding engineOf
+fast-marked = refl
+
+pub plain-marked : markedCallBy (engineOf plain) ≡ pencilMarkedCall
+unfolding engineOf
+plain-marked = refl
+
+pub eight-bits : panelCallBy (partAt Eight) ≡ panelCall
+unfolding partAt
+eight-bits = refl
+
+pub six-bits : panelCallBy (partAt Six) ≡ panelSixCall
+unfolding partAt
+six-bits = refl
 
 -- ---- what two boards have in common
 

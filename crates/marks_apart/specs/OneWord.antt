@@ -22,8 +22,7 @@ withResults results (w ∷ l) = (256 * high w + results 0 % 256) ∷ withResults
 results-high : (results : ℕ → ℕ) (l : List ℕ) → map high (withResults results l) ≡ map high l
 unfolding withResults
 results-high results [] = refl
-results-high results (w ∷ l) =
-    ap₂ (λ (x : ℕ) (t : List ℕ). x ∷ t) (high-is (256 * high w + results 0 % 256) ∙ (omega arith)) (results-high (λ i. results (suc i)) l)
+results-high results (w ∷ l) = ap₂ (λ (x : ℕ) (t : List ℕ). x ∷ t) (high-is _ ∙ (omega arith)) (results-high (λ i. results (suc i)) l)
 
 pub results-agree : (f g : ℕ → ℕ) (l : List ℕ) → Agree (withResults f l) (withResults g l)
 results-agree f g l = record { same = results-high f l ∙ sym (results-high g l) }

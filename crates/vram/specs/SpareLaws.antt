@@ -2,6 +2,7 @@
 use mathlib.Core.Path.{_≡_, refl, sym, ap, _∙_}
 use mathlib.Core.Bool.{Bool, true, false, _&&_, _||_, cond, and-false}
 use mathlib.Core.List.{List, [], _∷_}
+use mathlib.Core.Logic.{_⊎_, inl, inr, ⊎-elim}
 use Prim.Native.Nat.{ℕ, _-_, _≤_, _<_}
 use lib.Dec.{eqb, ltb}
 use lib.ListN.{length, getD}
@@ -32,12 +33,15 @@ Words m = (a : ℕ) → getD m a 0 < 65536
 abbrev Low : (ℕ → Bool) → Type 0
 Low w = (b : ℕ) → 8 ≤ b → w b ≡ false
 
+either-of : (p q : Bool) → (p || q) ≡ true → (p ≡ true) ⊎ (q ≡ true)
+either-of true q h = inl refl
+either-of false q h = inr h
+
 below-low : (s : Vram) (masking mask strobes : ℕ) → below s masking mask strobes ≡ true → Low (allowed s masking mask strobes)
-below-low s masking mask strobes h b l = go (eqb strobes 1) refl h
-  where
-    go : (t : Bool) → eqb strobes 1 ≡ t → (t || ltb (inForce s masking mask) 256) ≡ true → allowed s masking mask strobes b ≡ false
-    go true q z = rw (eqb-true strobes 1 q, covers-low b l)
-    go false q z = rw (bit-above 8 (inForce s masking mask) b (ltb-true _ _ z) l) (and-false (covers strobes b))
+below-low s masking mask strobes h b l =
+    ⊎-elim (λ e. ap (λ (n : ℕ). covers n b && bit (inForce s masking mask) b) (eqb-true strobes _ e) ∙ ap (λ (t : Bool). t && bit (inForce s masking mask) b) (covers-low b l))
+    (λ e. ap (λ (t : Bool). covers strobes b && t) (bit-above 8 (inForce s masking mask) b (ltb-true _ _ e) l) ∙ and-false (covers strobes b))
+    (either-of _ _ h)
 
 -- of each cycle that spares the high bytes
 spares-low : (c : Cycle) (s : Vram) → spares c s ≡ true → (j : ℕ) → Low (writes c s .through j)
