@@ -1,8 +1,8 @@
 /* Marks and results, change request M-110. `twins`: two boards that differ in every low byte and in nothing else are given the same list and
  * then the same run to the panel; numbers, places, states and marked rows must be the same, high bytes must agree, and each pixel whose high
- * byte is neither 0 nor 255 must have the same colour. `results`: a list whose writes reach no high byte must leave every high byte. Both are
- * asked of the library alone, or of the second implementation alone, in which faults can be planted.
- *   apart library|model twins|results [lists] [seed]      a difference is printed and ends the run with 1 */
+ * byte is neither 0 nor 255 must have the same colour. `results`: a list whose writes reach no high byte must leave every high byte of the
+ * memory. Both are asked of the library alone, or of the second implementation alone, in which faults can be planted.
+ *   apart library|model twins|results [times] [seed]      a difference is printed and ends the run with 1 */
 #include "compare.h"
 #include "cutting.h"
 #include "inputs.h"
@@ -76,6 +76,8 @@ static linkshoar_ran run_pieces(linkshoar_vram s, size_t words, size_t length)
         a = tried->take(a.state, a.pieces, memory_a, words, serial_a, SERIAL, bytes_of(bytes_a + at, n), n);
         b = tried->take(b.state, b.pieces, memory_b, words, serial_b, SERIAL, bytes_of(bytes_b + at, n), n);
         same_answers("a piece's answer", a.state, b.state, a.number, b.number, a.place, b.place);
+        if (!pieces_same(a.pieces, b.pieces))
+            differ("what is kept of a list in pieces");
     }
     a = tried->end(a.state, a.pieces, memory_a, words, serial_a, SERIAL);
     b = tried->end(b.state, b.pieces, memory_b, words, serial_b, SERIAL);
@@ -123,7 +125,7 @@ static void try_shown(linkshoar_vram s)
     linkshoar_shown b = tried->shows[width](s, serial_b, SERIAL, p, table_b, TABLE, clocks, blank, bytes_b, room);
     same_answers("the run's answer", a.state, b.state, a.number, b.number, 0, 0);
     for (uint32_t i = 0; i < clocks && !a.number; i++) {
-        linkshoar_clocked word = linkshoar_serial_clock(s, serial_a, SERIAL);
+        linkshoar_clocked word = tried->clock(s, serial_a, SERIAL);
         s = word.state;
         if (word.word / 256 == 0 || word.word / 256 == 255)
             continue;
@@ -161,16 +163,19 @@ static void twins(void)
     }
 }
 
-/* ---- results alone: strobes 1, or masked while the mask in force has no bit of the high byte */
+/* ---- results alone: strobes 1, or masked while the mask in force has no bit of the high byte; mask loads too, but none of a high byte */
 
 static size_t put_result(uint8_t *at, uint32_t rows)
 {
     uint16_t row = (uint16_t)below(rows), column = (uint16_t)below(512), data = (uint16_t)any();
     uint8_t low = (uint8_t)below(2), masking = (uint8_t)(low ? below(2) : 1), strobes = (uint8_t)(low ? 1 : 1 + below(3));
     uint16_t mask = (uint16_t)(!masking ? 0 : low ? any() : below(256));
-    switch (below(4)) {
-    case 0: return linkshoar_put_word_write(at, row, column, data, masking, mask, strobes);
-    case 1: return linkshoar_put_load_colour(at, data, (uint8_t)(1 + below(3)));
+    switch (below(8)) {
+    case 0: case 1: return linkshoar_put_word_write(at, row, column, data, masking, mask, strobes);
+    case 2: return linkshoar_put_load_colour(at, data, (uint8_t)(1 + below(3)));
+    case 3: return linkshoar_put_load_mask(at, (uint16_t)(data % 256), LINKSHOAR_STROBES_BOTH);
+    case 4: return chance(8) ? linkshoar_put_block_write(at, (uint16_t)rows, column, data, masking, mask, strobes) /* a row that is not fitted */
+                             : linkshoar_put_full_transfer(at, row, (uint8_t)below(2), (uint8_t)any());
     default: return linkshoar_put_block_write(at, row, column, data, masking, mask, strobes);
     }
 }
@@ -189,6 +194,8 @@ static void results(void)
     memcpy(before, memory_a, sizeof *before * words);
     for (uint32_t n = 1 + below(12); n; n--)
         length += put_result(bytes_a + length, rows);
+    if (!chance(4))
+        length += linkshoar_put_reset_refresh(bytes_a + length);
     memcpy(bytes_b, bytes_a, length);
     run_list(s, words, length);
     same_high("the marks after results were drawn", before, memory_a, words);
@@ -196,7 +203,7 @@ static void results(void)
 
 int main(int argc, char **argv)
 {
-    if (argc < 3)
+    if (argc < 3 || (strcmp(argv[1], "library") && strcmp(argv[1], "model")) || (strcmp(argv[2], "twins") && strcmp(argv[2], "results")))
         return 2;
     int twin = !strcmp(argv[2], "twins");
     unsigned long most = argc > 3 ? strtoul(argv[3], NULL, 10) : 20000;
@@ -204,11 +211,11 @@ int main(int argc, char **argv)
     sow(argc > 4 ? strtoull(argv[4], NULL, 10) : 1);
     for (unsigned long n = 0; n < most; n++)
         (twin ? twins : results)();
-    printf("%s, %s: %llu calls on each of two boards, %llu lists accepted, ", argv[1], argv[2], calls, accepted);
+    printf("%s, %s: %llu calls, each on two boards, %llu lists accepted, ", argv[1], argv[2], calls, accepted);
     if (twin)
         printf("%llu pixels with a mark: no mark depends on a result\n", pixels);
     else
-        printf("results alone drawn: every mark is as it was\n");
+        printf("results alone drawn: every mark in the memory is as it was\n");
     if (!accepted || (twin && !pixels)) {
         printf("the run shows too little\n");
         return 1;

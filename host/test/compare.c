@@ -101,6 +101,12 @@ int vram_same(linkshoar_vram a, linkshoar_vram b)
            a.waiting == b.waiting && a.tap == b.tap && a.stop == b.stop;
 }
 
+int pieces_same(linkshoar_pieces a, linkshoar_pieces b)
+{
+    return a.left == b.left && a.start == b.start && a.number == b.number && !memcmp(a.held, b.held, sizeof a.held) && a.count == b.count &&
+           a.open == b.open;
+}
+
 int palette_same(linkshoar_palette a, linkshoar_palette b)
 {
     return a.address == b.address && a.phase == b.phase && a.red == b.red && a.green == b.green && a.blue == b.blue && a.mask == b.mask;

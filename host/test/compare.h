@@ -30,6 +30,7 @@ void count(uint32_t number);
 void differ(const char *what); /* prints it and ends the program with 1 */
 int vram_same(linkshoar_vram a, linkshoar_vram b); /* member by member: the bytes between members are not determined */
 int palette_same(linkshoar_palette a, linkshoar_palette b);
+int pieces_same(linkshoar_pieces a, linkshoar_pieces b);
 void same_words(const char *what, const uint16_t *a, const uint16_t *b, size_t n); /* and AROUND words before and past them */
 void same_bytes(const char *what, const uint8_t *a, const uint8_t *b, size_t n);
 void same_all(void); /* everything that can be lent, to its end */

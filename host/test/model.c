@@ -112,6 +112,12 @@ model_field model_field_read(const uint8_t *f)
     return r;
 }
 
+#if FAULT == 101 /* whether a word write is refused goes by a result */
+#define TOLD(field, memory) ((field)[0] == 1 && (memory)[0] % 256 < 8)
+#else
+#define TOLD(field, memory) 0
+#endif
+
 /* What refuses the field at the start of these bytes. */
 static uint32_t field_number(const uint8_t *bytes, size_t left, size_t rows, int loaded)
 {
@@ -254,7 +260,7 @@ static void run_field(linkshoar_vram *s, uint16_t *memory, uint16_t *serial, mod
 uint32_t model_field_run(linkshoar_vram *s, uint16_t *memory, size_t words, uint16_t *serial, const uint8_t *field, size_t bytes)
 {
     uint32_t number = field_number(field, bytes, words / 512, s->loaded);
-    if (FAULT == 101 && !number && field[0] == 1 && memory[0] % 256 < 8) /* a number that goes by a result */
+    if (!number && TOLD(field, memory))
         number = 8;
     if (!number)
         run_field(s, memory, serial, model_field_read(field));
@@ -350,6 +356,8 @@ static linkshoar_ran list_run(engine *run, linkshoar_vram state, uint16_t *memor
     int loaded = state.loaded;
     for (size_t at = 0; at < length; at += 3 + pair(list + at + 1)) {
         r.number = field_number(list + at, length - at, words / 512, loaded);
+        if (!r.number && TOLD(list + at, memory))
+            r.number = 8;
         if (r.number) {
             r.place = at;
             if (FAULT == 44 && left_open(list, at) < at) { /* 20 before a later field's own number */

@@ -9,12 +9,6 @@
 
 #include <string.h>
 
-static int pieces_same(linkshoar_pieces a, linkshoar_pieces b)
-{
-    return a.left == b.left && a.start == b.start && a.number == b.number && !memcmp(a.held, b.held, sizeof a.held) && a.count == b.count &&
-           a.open == b.open;
-}
-
 static linkshoar_taken same_taken(const char *name, linkshoar_taken a, linkshoar_taken b, size_t words, size_t serial_words)
 {
     count(b.number);

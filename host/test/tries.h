@@ -2,8 +2,6 @@
 #ifndef TRIES_H
 #define TRIES_H
 
-#include "linkshoar.h"
-
 void try_fill(void);       /* fill.c: the planner's call */
 void try_page(void);       /* page.c: a page of fills, also against its fills called one by one */
 void page_edges(void);     /* page.c: pages and rooms of every length about that of one and two rectangles, every pair of refusals */

@@ -2,14 +2,12 @@
 -- answered agrees in its high byte, and each pixel whose high byte is neither 0 nor 255 shows the same colour. Change request M-110.
 -- Assumes nothing.
 use Prim.Native.Nat.{ℕ, _<_}
-use mathlib.Core.Path.{_≡_, refl, ap₂}
-use mathlib.Core.Bool.{Bool, true, false, cond}
+use mathlib.Core.Path.{_≡_, refl}
 use mathlib.Core.List.{List}
 use mathlib.Core.Logic.{_≢_}
 use native.Mathlib.Omega.{arith}
 use lib.ListN.{length, getD}
 use Rattle.words.specs.Word.{high}
-use Rattle.vram.specs.declared.Vram.{Vram}
 use Rattle.vram.specs.Serial.{clockedWords}
 use Rattle.vram.specs.Calls.{clockCall as vramClock}
 use Rattle.vram.specs.High.{Agree}
@@ -19,10 +17,10 @@ use Rattle.panel.specs.Panel.{pixelAt}
 use Rattle.panel.specs.Calls.{runCallBy as panelRunBy}
 use Rattle.panel.specs.HighLaws.{answer-twins, pixel-twins}
 use Rattle.registers.specs.declared.Registers.{Registers}
-use Rattle.registers.specs.State.{taken, handed}
+use Rattle.registers.specs.State.{taken}
 use Rattle.registers.specs.StateLaws.{taking-both}
 use Rattle.host.specs.declared.Clocked.{Clocked}
-use Rattle.host.specs.Calls.{clockAnswer, clockCall, ShownTo, shown, panelAnswer, panelCallBy}
+use Rattle.host.specs.Calls.{clockAnswer, clockCall, ShownTo, panelAnswer, panelCallBy}
 
 -- ---- a serial clock
 

@@ -4,5 +4,5 @@
 pub mod Calls
 -- a refusal hands the state back; a call on a state handed to C is the call below
 pub mod CallLaws
--- on memories and serial registers that agree in every high byte
+-- on serial registers that agree in every high byte
 pub mod HighLaws

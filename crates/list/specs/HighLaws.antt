@@ -3,7 +3,7 @@ use mathlib.Core.Path.{_≡_}
 use mathlib.Core.List.{List}
 use Prim.Native.Nat.{ℕ}
 use Rattle.vram.specs.Board.{Board}
-use Rattle.vram.specs.Step.{Engine, stepBy, runBy}
+use Rattle.vram.specs.Step.{Engine}
 use Rattle.vram.specs.High.{Twins, KeepsTwins}
 use Rattle.vram.specs.HighLaws.{agree-length, leaves-twins, run-twins}
 use Rattle.list.specs.Meaning.{cyclesOf, verdictOf, runCallBy}

@@ -91,13 +91,13 @@ showing engine width b = shown (whole engine list) width freshPalette (coloursFr
 abbrev pub marksShown : Which → Width → Board → List ℕ
 marksShown engine width b = map (λ i. high (wordOf (whole engine list) width freshPalette (coloursFrom 0 256) 20 0 b i)) (placesFrom 0 20)
 
--- the pixels, from one on, that differ
 abbrev pub alike : List ℕ → List ℕ → Bool
 alike [] [] = true
 alike [] (y ∷ m) = false
 alike (x ∷ l) [] = false
 alike (x ∷ l) (y ∷ m) = eqb x y && alike l m
 
+-- the pixels that differ, of n from one on
 abbrev pub differing : ℕ → ℕ → List ℕ → List ℕ → List ℕ
 differing at zero x y = []
 differing at (suc n) x y = cond (alike (pixelAt at x) (pixelAt at y)) (differing (suc at) n x y) (at ∷ differing (suc at) n x y)

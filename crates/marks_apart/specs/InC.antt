@@ -1,7 +1,7 @@
 -- The same for C: on two boards whose memories and serial registers agree in every high byte, whatever the exports are given besides, the same on
 -- both, and in whatever order they are called. Change request M-110. Assumes nothing.
 use Prim.Native.Nat.{ℕ}
-use mathlib.Core.Path.{_≡_, refl}
+use mathlib.Core.Path.{_≡_, refl, ap}
 use mathlib.Core.List.{List, [], _∷_}
 use lib.ListN.{length}
 use Rattle.words.specs.Word.{high}
@@ -13,6 +13,7 @@ use Rattle.palette.specs.declared.Palette.{Palette}
 use Rattle.panel.specs.declared.Width.{Width}
 use Rattle.panel.specs.declared.Width.the-variants.{Six, Eight}
 use Rattle.panel.specs.Panel.{partAt}
+use Rattle.panel.specs.PartLaws.{six-rule, eight-rule}
 use Rattle.registers.specs.declared.Registers.{Registers}
 use Rattle.registers.specs.State.{taken}
 use Rattle.registers.specs.Lists.{listCallBy, listCall}
@@ -81,12 +82,10 @@ unfolding engineOf
 plain-marked = refl
 
 pub eight-bits : panelCallBy (partAt Eight) ≡ panelCall
-unfolding partAt
-eight-bits = refl
+eight-bits = ap panelCallBy eight-rule
 
 pub six-bits : panelCallBy (partAt Six) ≡ panelSixCall
-unfolding partAt
-six-bits = refl
+six-bits = ap panelCallBy six-rule
 
 -- ---- what two boards have in common
 

@@ -1,5 +1,5 @@
 -- The sentence that the chief technologist asked for, on one word: after any list, the high byte of a word is the same whatever the results
--- below were. Change request M-110. Assumes nothing.
+-- below were. It follows from `marks-apart`. Change request M-110. Assumes nothing.
 use Prim.Native.Nat.{ℕ, suc, _+_, _*_, _%_}
 use mathlib.Core.Path.{_≡_, refl, sym, ap₂, _∙_}
 use mathlib.Core.List.{List, [], _∷_, map}
@@ -11,8 +11,10 @@ use Rattle.vram.specs.declared.Vram.{Vram}
 use Rattle.vram.specs.Board.{Board, board}
 use Rattle.vram.specs.High.{Agree, Twins}
 use Rattle.vram.specs.HighLaws.{agree-at}
+use Rattle.palette.specs.State.{fresh}
+use Rattle.panel.specs.declared.Width.the-variants.{Eight}
 use Rattle.marks_apart.specs.Ways.{Way, ran}
-use Rattle.marks_apart.specs.WayLaws.{way-given, way-after}
+use Rattle.marks_apart.specs.Apart.{Unaltered, marks-apart}
 
 -- words with other results: each keeps its high byte, and the low byte of the word at place i is that of `results i`
 unfoldable pub withResults : (ℕ → ℕ) → List ℕ → List ℕ
@@ -37,13 +39,17 @@ module _ (way : Way) (state : Vram) (memory serial : List ℕ) where
   markOf b row column = high (getD (ran way b .after .memory) (512 * row + column) 0)
 
   module _ (f g f′ g′ : ℕ → ℕ) where
-    abbrev both : Twins (holding f g) (holding f′ g′)
+    both : Twins (holding f g) (holding f′ g′)
     both = record { state = refl; memory = results-agree f f′ memory; serial = results-agree g g′ serial }
 
-    -- of every word, on every board
-    pub mark-of-a-word : (row column : ℕ) → markOf (holding f g) row column ≡ markOf (holding f′ g′) row column
-    mark-of-a-word row column = agree-at (way-after both way .memory) (512 * row + column)
+    -- with any run after the list, one of no clocks say
+    unaltered : Unaltered way Eight fresh [] 0 0 (holding f g) (holding f′ g′) [] []
+    unaltered = marks-apart way Eight fresh [] 0 0 (holding f g) (holding f′ g′) both [] [] refl
 
-    -- and whether the list is accepted does not depend on the results either
+    -- of every word, on every board, after a list that is accepted or not
+    pub mark-of-a-word : (row column : ℕ) → markOf (holding f g) row column ≡ markOf (holding f′ g′) row column
+    mark-of-a-word row column = agree-at (unaltered .boards .memory) (512 * row + column)
+
+    -- and whether it is accepted does not depend on the results either
     pub accepted-alike : ran way (holding f g) .given ≡ ran way (holding f′ g′) .given
-    accepted-alike = way-given both way
+    accepted-alike = unaltered .given

@@ -1,7 +1,7 @@
 -- Drawing results leaves every mark: a list whose writes reach no high byte leaves all of them as they were, whatever results it draws. This
 -- is what version one broke (`Faults`); the statement of change request M-110 alone does not say it. Assumes nothing.
-use Prim.Native.Nat.{ℕ, _-_, _≤_, _<_}
-use mathlib.Core.Path.{_≡_, refl, sym, ap, _∙_}
+use Prim.Native.Nat.{ℕ, _≤_, _<_}
+use mathlib.Core.Path.{_≡_, refl, ap, _∙_}
 use mathlib.Core.Bool.{Bool, true, false, cond}
 use mathlib.Core.List.{List, flatten}
 use native.Mathlib.Decide.{ℕ-discrete}
@@ -12,12 +12,12 @@ use Rattle.words.specs.Word.{merged, high}
 use Rattle.words.specs.WordLaws.{merged-low}
 use Rattle.vram.specs.declared.Cycle.{Cycle}
 use Rattle.vram.specs.Board.{Board, effect}
-use Rattle.vram.specs.High.{Agree, allSpare}
+use Rattle.vram.specs.High.{Agree, Words, allSpare}
 use Rattle.vram.specs.HighLaws.{agree-from}
-use Rattle.vram.specs.SpareLaws.{Words, run-spares}
-use Rattle.list.specs.Meaning.{Outcome, cyclesOf, verdictOf, runCallBy, runCall}
+use Rattle.vram.specs.SpareLaws.{run-spares}
+use Rattle.list.specs.Meaning.{cyclesOf, verdictOf, runCall}
 use Rattle.list.specs.CallLaws.{call-runs, call-refuses, calls-same}
-use Rattle.marks.specs.Calls.{Outcome as MarkedOutcome, verdictOf as markedVerdict, runCallBy as markedCallBy, runCall as markedCall}
+use Rattle.marks.specs.Calls.{verdictOf as markedVerdict, runCall as markedCall}
 use Rattle.marks.specs.CallLaws.{run-runs-by, run-refuses-by, marked-same}
 use Rattle.planner.specs.Fill.{Fill, inside}
 use Rattle.planner.specs.Calls.{fillCall}
@@ -31,10 +31,16 @@ use Rattle.marks_apart.specs.Ways.{Which, fast, plain, engineOf, Way, wh
 
 -- ---- the bytes of a list, whichever way it is run
 
-abbrev pub bytesOf : Way → List ℕ
-bytesOf (whole engine list) = list
-bytesOf (marked engine rows list) = list
-bytesOf (pieces cutting) = flatten cutting
+abbrev pub listOf : Way → List ℕ
+listOf (whole engine list) = list
+listOf (marked engine rows list) = list
+listOf (pieces cutting) = flatten cutting
+
+-- in pieces it has at most 4,294,967,295 of them
+abbrev pub Fits : Way → Type 0
+Fits (whole engine list) = Unit
+Fits (marked engine rows list) = Unit
+Fits (pieces cutting) = length (flatten cutting) ≤ limit
 
 -- ---- on the engine of the rules
 
@@ -57,10 +63,10 @@ unfolding engineOf
 engine-effect fast c b = refl
 engine-effect plain c b = pencil-effect c b
 
--- ---- a list of at most 4,294,967,295 bytes, run in any way, accepted or refused, on a memory of words of 16 bits: where each write's strobes
--- leave the high byte out, or the mask in force has no bit of it (`allSpare`), every high byte is afterwards what it was
+-- ---- a list run in any way, accepted or refused, on a memory of words of 16 bits: where each write's strobes leave the high byte out, or the
+-- mask in force has no bit of it (`allSpare`), every high byte is afterwards what it was
 
-pub results-leave-marks : (way : Way) → length (bytesOf way) ≤ limit → (b : Board) → Words (b .memory) → allSpare (cyclesOf (bytesOf way)) b ≡ true
+pub results-leave-marks : (way : Way) → Fits way → (b : Board) → Words (b .memory) → allSpare (cyclesOf (listOf way)) b ≡ true
     → Agree (ran way b .after .memory) (b .memory)
 unfolding ran
 results-leave-marks (whole engine list) l b k h = rw (calls-same (engine-effect engine) list b) (list-spares b k list h)

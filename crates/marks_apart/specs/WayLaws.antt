@@ -1,5 +1,4 @@
 -- Every way to run a list gives the same answers on two boards that differ in low bytes alone, and leaves such boards. Assumes nothing.
-use Prim.Native.Nat.{ℕ}
 use mathlib.Core.Path.{_≡_, refl, ap, ap₂}
 use mathlib.Core.List.{List, [], _∷_, _++_}
 use Rattle.vram.specs.Board.{Board}

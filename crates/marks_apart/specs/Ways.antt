@@ -28,12 +28,12 @@ pub data Way : Type 0 where
   pieces : (cutting : List (List ℕ)) → Way
 
 -- number and place that each call gives back, the marks of rows afterwards, none where none are lent, and the board afterwards
-pub record Ran : Type 0 where
+pub record Outcome : Type 0 where
   pub given : List Bad
   pub rows : List ℕ
   pub after : Board
 
-unfoldable pub ran : Way → Board → Ran
+unfoldable pub ran : Way → Board → Outcome
 ran (whole engine list) b = let o = runCallBy (engineOf engine) list b in record { given = o .given ∷ []; rows = []; after = o .after }
 ran (marked engine rows list) b =
     let o = markedCallBy (engineOf engine) list b rows in

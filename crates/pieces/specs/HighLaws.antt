@@ -16,7 +16,7 @@ use Rattle.list.specs.Open.{openBy}
 use Rattle.list.specs.Meaning.{bad}
 use Rattle.list.specs.Waits.{waits}
 use Rattle.pieces.specs.declared.Pieces.{Pieces}
-use Rattle.pieces.specs.Line.{Line, line, refused, fresh, Port, port, limit, numberOn, draws, met, come, feed, piece, soFar, atLast}
+use Rattle.pieces.specs.Line.{Line, line, refused, fresh, Port, port, limit, numberOn, draws, met, come, feed, piece, atLast}
 use Rattle.pieces.specs.Pieces.{pack, unpack}
 use Rattle.pieces.specs.Calls.{Outcome, gives, firstNumber, fed, takeCall, endCall}
 use Rattle.pieces.specs.Cutting.{answers, ends}
@@ -24,7 +24,7 @@ use Rattle.pieces.specs.Cutting.{answers, ends}
 -- ---- a byte
 
 -- the same line, on boards that differ in low bytes alone
-record Alike (p q : Port) : Type 0 where
+record TwinPorts (p q : Port) : Type 0 where
   pub line : p .line ≡ q .line
   pub on : Twins (p .on) (q .on)
 
@@ -37,29 +37,29 @@ module _ {a b : Board} (t : Twins a b) where
   draws-twins (Reads c n) = step-twins effect effect-twins c a b t
   draws-twins Unreadable = t
 
-  met-alike : (at : ℕ) (f : Field) (left : Open) → Alike (met at f left a) (met at f left b)
+  met-ports : (at : ℕ) (f : Field) (left : Open) → TwinPorts (met at f left a) (met at f left b)
   unfolding met
-  met-alike at f left = rw (number-on f) (go (eqb (numberOn f b) 0))
+  met-ports at f left = rw (number-on f) (go (eqb (numberOn f b) 0))
     where
       next : Line
       next = line [] (at + sizeOf f) 0 (openBy at f left)
 
-      go : (u : Bool) → Alike (cond u (port next (draws f a)) (port (refused (numberOn f b) at) a)) (cond u (port next (draws f b)) (port (refused (numberOn f b) at) b))
+      go : (u : Bool) → TwinPorts (cond u (port next (draws f a)) (port (refused (numberOn f b) at) a)) (cond u (port next (draws f b)) (port (refused (numberOn f b) at) b))
       go true = record { line = refl; on = draws-twins f }
       go false = record { line = refl; on = t }
 
-  come-alike : (at : ℕ) (s : List ℕ) (left : Open) → Alike (come at s left a) (come at s left b)
+  come-ports : (at : ℕ) (s : List ℕ) (left : Open) → TwinPorts (come at s left a) (come at s left b)
   unfolding come
-  come-alike at s left = go (waits s)
+  come-ports at s left = go (waits s)
     where
-      go : (u : Bool) → Alike (cond u (port (line s at 0 left) a) (met at (fieldOf s) left a)) (cond u (port (line s at 0 left) b) (met at (fieldOf s) left b))
+      go : (u : Bool) → TwinPorts (cond u (port (line s at 0 left) a) (met at (fieldOf s) left a)) (cond u (port (line s at 0 left) b) (met at (fieldOf s) left b))
       go true = record { line = refl; on = t }
-      go false = met-alike at (fieldOf s) left
+      go false = met-ports at (fieldOf s) left
 
   -- on the line l
-  on-alike : (l : Line) (x : ℕ) → Alike (feed (port l a) x) (feed (port l b) x)
+  on-ports : (l : Line) (x : ℕ) → TwinPorts (feed (port l a) x) (feed (port l b) x)
   unfolding feed
-  on-alike l x = go (eqb (l .number) 0) (ltb (l .start + length (l .held)) limit)
+  on-ports l x = go (eqb (l .number) 0) (ltb (l .start + length (l .held)) limit)
     where
       come-on : Board → Port
       come-on = come (l .start) (l .held ++ x ∷ []) (l .left)
@@ -67,17 +67,17 @@ module _ {a b : Board} (t : Twins a b) where
       over : Board → Port
       over = port (refused 4 (l .start))
 
-      go : (u v : Bool) → Alike (cond u (cond v (come-on a) (over a)) (port l a)) (cond u (cond v (come-on b) (over b)) (port l b))
-      go true true = come-alike (l .start) (l .held ++ x ∷ []) (l .left)
+      go : (u v : Bool) → TwinPorts (cond u (cond v (come-on a) (over a)) (port l a)) (cond u (cond v (come-on b) (over b)) (port l b))
+      go true true = come-ports (l .start) (l .held ++ x ∷ []) (l .left)
       go true false = record { line = refl; on = t }
       go false v = record { line = refl; on = t }
 
-feed-alike : (x : ℕ) {p q : Port} → Alike p q → Alike (feed p x) (feed q x)
-feed-alike x {p} {q} k = rw (k .line) (on-alike (k .on) (q .line) x)
+feed-ports : (x : ℕ) {p q : Port} → TwinPorts p q → TwinPorts (feed p x) (feed q x)
+feed-ports x {p} {q} k = rw (k .line) (on-ports (k .on) (q .line) x)
 
-piece-alike : (s : List ℕ) {p q : Port} → Alike p q → Alike (piece p s) (piece q s)
-piece-alike [] k = k
-piece-alike (x ∷ s) k = piece-alike s (feed-alike x k)
+piece-ports : (s : List ℕ) {p q : Port} → TwinPorts p q → TwinPorts (piece p s) (piece q s)
+piece-ports [] k = k
+piece-ports (x ∷ s) k = piece-ports s (feed-ports x k)
 
 -- ---- the calls
 
@@ -104,7 +104,7 @@ module _ (p : Pieces) {a b : Board} (t : Twins a b) where
   pub take-twins : (s : List ℕ) → TwinOutcomes (takeCall p s a) (takeCall p s b)
   unfolding takeCall
   take-twins s =
-      let k = piece-alike s {p = port (unpack p) a} {q = port (unpack p) b} (record { line = refl; on = t }) in
+      let k = piece-ports s {p = port (unpack p) a} {q = port (unpack p) b} (record { line = refl; on = t }) in
       rw first-twins (unless-twins (fed (piece (port (unpack p) a) s)) (fed (piece (port (unpack p) b) s))
       (record { given = rw (k .line); pieces = rw (k .line); after = k .on }))
 

@@ -8,8 +8,8 @@ use lib.Dec.{eqb}
 use lib.ListN.{length}
 use Rattle.vram.specs.Board.{Board}
 use Rattle.vram.specs.Step.{givenOf, rowsOf, step}
-use Rattle.vram.specs.High.{Agree, spares, allSpare}
-use Rattle.vram.specs.SpareLaws.{Words, spare-none, spare-next, spare-first, spare-others, run-spares}
+use Rattle.vram.specs.High.{Agree, Words, spares, allSpare}
+use Rattle.vram.specs.SpareLaws.{spare-none, spare-next, spare-first, spare-others, run-spares}
 use Rattle.list.specs.Fields.{Field, Reads, Unreadable, fields}
 use Rattle.list.specs.VerdictLaws.{cycles-reads, cycles-none, number-unreadable}
 use Rattle.list.specs.Meaning.{numberOf, madeBy, cycles, cyclesOf}

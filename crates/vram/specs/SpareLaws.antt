@@ -1,10 +1,9 @@
 -- Cycles that reach no high byte leave every one: a list that writes results alone leaves every mark. Assumes nothing.
-use mathlib.Core.Path.{_≡_, refl, sym, ap, _∙_}
+use mathlib.Core.Path.{_≡_, refl, ap, _∙_}
 use mathlib.Core.Bool.{Bool, true, false, _&&_, _||_, cond, and-false}
 use mathlib.Core.List.{List, [], _∷_}
 use mathlib.Core.Logic.{_⊎_, inl, inr, ⊎-elim}
-use Prim.Native.Nat.{ℕ, _-_, _≤_, _<_}
-use lib.Dec.{eqb, ltb}
+use Prim.Native.Nat.{ℕ, _-_, _≤_}
 use lib.ListN.{length, getD}
 use borrow.Author.Tests.{eqb-true, ltb-true}
 use Rattle.numbers.specs.Between.{both}
@@ -22,12 +21,8 @@ use Rattle.vram.specs.Sets.{effect-writes}
 use Rattle.vram.specs.Step.{runBy, step, run}
 use Rattle.vram.specs.StepLaws.{step-holds}
 use Rattle.vram.specs.RuleLaws.{step-words}
-use Rattle.vram.specs.High.{Agree, below, spares, allSpare}
+use Rattle.vram.specs.High.{Agree, Words, below, spares, allSpare}
 use Rattle.vram.specs.HighLaws.{agree-from}
-
--- every word has 16 bits
-abbrev pub Words : List ℕ → Type 0
-Words m = (a : ℕ) → getD m a 0 < 65536
 
 -- no bit of a high byte is let through
 abbrev Low : (ℕ → Bool) → Type 0
