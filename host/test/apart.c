@@ -163,7 +163,7 @@ static void twins(void)
     }
 }
 
-/* ---- results alone: strobes 1, or masked while the mask in force has no bit of the high byte; mask loads too, but none of a high byte */
+/* ---- results alone: strobes 1, or masked while the mask in force has no bit of the high byte; mask loads too, but none with a bit of the high byte */
 
 static size_t put_result(uint8_t *at, uint32_t rows)
 {
