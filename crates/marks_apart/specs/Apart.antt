@@ -15,7 +15,7 @@ use Rattle.panel.specs.Panel.{partAt, pixelAt}
 use Rattle.panel.specs.Calls.{Outcome, runCallBy}
 use Rattle.panel.specs.HighLaws.{answer-twins, pixel-twins}
 use Rattle.marks_apart.specs.Ways.{Way, ran}
-use Rattle.marks_apart.specs.WayLaws.{way-given, way-rows, way-after}
+use Rattle.marks_apart.specs.WayLaws.{way-twins}
 
 -- on either engine, without and with marks of rows, or in pieces, cut anywhere (`Way`); with parts of eight bits or of six (`Width`)
 module _ (way : Way) (width : Width) (palette : Palette) (table : List ℕ) (clocks blank : ℕ) where
@@ -43,11 +43,12 @@ module _ (way : Way) (width : Width) (palette : Palette) (table : List ℕ) (clo
   -- for every two such boards and every two buffers of one length, whether the list and the run are refused or not
   pub marks-apart : (a b : Board) → Twins a b → (out out′ : List ℕ) → length out ≡ length out′ → Unaltered a b out out′
   marks-apart a b t out out′ l =
-      let k = way-after t way in
+      let o = way-twins t way in
+      let k = o .after in
       let s = ran way b .after .state in
       record {
-        given = way-given t way;
-        rows = way-rows t way;
+        given = o .given;
+        rows = o .rows;
         boards = k;
         answer = rw (k .state) (answer-twins (partAt width) s palette table clocks blank (k .serial) out out′ l);
         colours = rw (k .state) (pixel-twins (partAt width) s palette table clocks blank (k .serial) out out′ l);

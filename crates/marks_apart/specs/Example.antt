@@ -36,21 +36,20 @@ use Rattle.marks_apart.specs.OneWord.{withResults}
 
 -- ---- two boards of one row: marks 0 to 255, over and over; the results are 0 and up on the one, and one more each on the other
 
--- n words from the one given on, the mark of each its number mod 256
-abbrev pub marksFrom : ℕ → ℕ → List ℕ
-marksFrom at zero = []
-marksFrom at (suc n) = 256 * (at % 256) ∷ marksFrom (suc at) n
-
 -- n numbers from one on
 abbrev pub placesFrom : ℕ → ℕ → List ℕ
 placesFrom at zero = []
 placesFrom at (suc n) = at ∷ placesFrom (suc at) n
 
+-- n words, the mark of each its place mod 256
+abbrev pub marks : ℕ → List ℕ
+marks n = map (λ place. 256 * (place % 256)) (placesFrom 0 n)
+
 abbrev pub one : Board
-one = board fresh (withResults (λ i. i) (marksFrom 0 512)) (withResults (λ i. i) (marksFrom 0 256))
+one = board fresh (withResults (λ i. i) (marks 512)) (withResults (λ i. i) (marks 256))
 
 abbrev pub other : Board
-other = board fresh (withResults suc (marksFrom 0 512)) (withResults suc (marksFrom 0 256))
+other = board fresh (withResults suc (marks 512)) (withResults suc (marks 256))
 
 -- at every place the low bytes differ
 abbrev pub allDiffer : List ℕ → List ℕ → Bool

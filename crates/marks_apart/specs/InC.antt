@@ -120,34 +120,25 @@ abbrev pub AllAlike : List Call → Lent → Lent → Type 0
 AllAlike [] x y = Agreeing x y
 AllAlike (c ∷ cs) x y = Alike c x y × AllAlike cs (left c x) (left c y)
 
--- ---- one call
+-- ---- one call: its answers, and what it leaves
 
-module _ {x y : Lent} (t : Agreeing x y) where
-  call-alike : (c : Call) → Alike c x y
-  call-alike (list engine state bytes) = list-twins (engineOf engine) (engine-twins engine) state (t .memory) (t .serial) bytes .answer
-  call-alike (marked engine state rows bytes) =
-      let k = marked-twins (engineOf engine) (engine-twins engine) state (t .memory) (t .serial) rows bytes in (k .answer, k .marks)
-  call-alike (take state pieces piece) = take-twins state pieces (t .memory) (t .serial) piece .answer
-  call-alike (end state pieces) = end-twins state pieces (t .memory) (t .serial) .answer
-  call-alike (panel width state palette table clocks blank) = panel-twins (partAt width) state (t .serial) palette table clocks blank
-  call-alike (clock state) = clock-twins state (t .serial)
-  call-alike (read row column strobes) = (read-number (t .memory) row column strobes, read-high (t .memory) row column strobes)
-
-  left-agrees : (c : Call) → Agreeing (left c x) (left c y)
-  left-agrees (list engine state bytes) =
-      let k = list-twins (engineOf engine) (engine-twins engine) state (t .memory) (t .serial) bytes in record { memory = k .memory; serial = k .serial }
-  left-agrees (marked engine state rows bytes) =
-      let k = marked-twins (engineOf engine) (engine-twins engine) state (t .memory) (t .serial) rows bytes in
-      record { memory = k .memory; serial = k .serial }
-  left-agrees (take state pieces piece) =
-      let k = take-twins state pieces (t .memory) (t .serial) piece in record { memory = k .memory; serial = k .serial }
-  left-agrees (end state pieces) = let k = end-twins state pieces (t .memory) (t .serial) in record { memory = k .memory; serial = k .serial }
-  left-agrees (panel width state palette table clocks blank) = t
-  left-agrees (clock state) = t
-  left-agrees (read row column strobes) = t
+call-twins : {x y : Lent} → Agreeing x y → (c : Call) → Alike c x y × Agreeing (left c x) (left c y)
+call-twins t (list engine state bytes) =
+    let k = list-twins (engineOf engine) (engine-twins engine) state (t .memory) (t .serial) bytes in
+    (k .answer, record { memory = k .memory; serial = k .serial })
+call-twins t (marked engine state rows bytes) =
+    let k = marked-twins (engineOf engine) (engine-twins engine) state (t .memory) (t .serial) rows bytes in
+    ((k .answer, k .marks), record { memory = k .memory; serial = k .serial })
+call-twins t (take state pieces piece) =
+    let k = take-twins state pieces (t .memory) (t .serial) piece in (k .answer, record { memory = k .memory; serial = k .serial })
+call-twins t (end state pieces) =
+    let k = end-twins state pieces (t .memory) (t .serial) in (k .answer, record { memory = k .memory; serial = k .serial })
+call-twins t (panel width state palette table clocks blank) = (panel-twins (partAt width) state (t .serial) palette table clocks blank, t)
+call-twins t (clock state) = (clock-twins state (t .serial), t)
+call-twins t (read row column strobes) = ((read-number (t .memory) row column strobes, read-high (t .memory) row column strobes), t)
 
 -- ---- any calls, in any order
 
 pub calls-apart : (calls : List Call) (x y : Lent) → Agreeing x y → AllAlike calls x y
 calls-apart [] x y t = t
-calls-apart (c ∷ cs) x y t = (call-alike t c, calls-apart cs (left c x) (left c y) (left-agrees t c))
+calls-apart (c ∷ cs) x y t = let k = call-twins t c in (k .0, calls-apart cs (left c x) (left c y) (k .1))

@@ -2,17 +2,18 @@
 -- is what version one broke (`Faults`); the statement of change request M-110 alone does not say it. Assumes nothing.
 use Prim.Native.Nat.{ℕ, _≤_, _<_}
 use mathlib.Core.Path.{_≡_, refl, ap, _∙_}
-use mathlib.Core.Bool.{Bool, true, false, cond}
+use mathlib.Core.Bool.{true}
 use mathlib.Core.List.{List, flatten}
 use native.Mathlib.Decide.{ℕ-discrete}
 use lib.ListN.{length, getD}
 use Rattle.words.specs.Bit.{bit}
 use Rattle.words.specs.BitLaws.{bit-above}
-use Rattle.words.specs.Word.{merged, high}
-use Rattle.words.specs.WordLaws.{merged-low}
+use Rattle.words.specs.Word.{high}
+use Rattle.words.specs.WordLaws.{low-kept}
 use Rattle.vram.specs.declared.Cycle.{Cycle}
+use Rattle.vram.specs.Memory.{Words}
 use Rattle.vram.specs.Board.{Board, effect}
-use Rattle.vram.specs.High.{Agree, Words, allSpare}
+use Rattle.vram.specs.High.{Agree, allSpare}
 use Rattle.vram.specs.HighLaws.{agree-from}
 use Rattle.vram.specs.SpareLaws.{run-spares}
 use Rattle.list.specs.Meaning.{cyclesOf, verdictOf, runCall}
@@ -76,11 +77,9 @@ results-leave-marks (pieces cutting) l b k h = cut-spares (flatten cutting) l cu
 -- ---- and a fill through a mask below 0100, the planner's way to paint a result, leaves every mark
 
 painted-agrees : (f : Fill) → f .mask < 256 → (m : List ℕ) → Words m → Agree (painted f m) m
-painted-agrees f l m k = agree-from (painted-length f m) (λ a h. ap high (drawn-at f (inside f) m a (rw (painted-length f m) at h)) ∙ go a (inside f a))
-  where
-    go : (a : ℕ) (t : Bool) → high (cond t (merged (getD m a 0) (f .colour) (bit (f .mask))) (getD m a 0)) ≡ high (getD m a 0)
-    go a true = merged-low (getD m a 0) (f .colour) (bit (f .mask)) (k a) (λ b. bit-above 8 (f .mask) b l)
-    go a false = refl
+painted-agrees f l m k = agree-from (painted-length f m)
+    (λ a h. ap high (drawn-at f (inside f) m a (rw (painted-length f m) at h))
+    ∙ low-kept (inside f a) (getD m a 0) (f .colour) (bit (f .mask)) (k a) (λ b. bit-above 8 (f .mask) b l))
 
 pub fill-leaves-marks : (engine : Which) (f : Fill) (out : List ℕ) → Wide f → fillCall f out .answer .number ≡ 0 → f .mask < 256
     → (b : Board) → Start (f .rows) b → Agree (ran (whole engine (listIn (fillCall f out))) b .after .memory) (b .memory)

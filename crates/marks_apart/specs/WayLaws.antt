@@ -11,7 +11,7 @@ use Rattle.pencil.specs.EngineLaws.{pencil-twins}
 use Rattle.pieces.specs.Line.{fresh}
 use Rattle.pieces.specs.Pieces.{pack}
 use Rattle.pieces.specs.HighLaws.{answers-twins, ends-twins}
-use Rattle.marks_apart.specs.Ways.{Which, fast, plain, engineOf, Way, whole, marked, pieces, ran}
+use Rattle.marks_apart.specs.Ways.{Which, fast, plain, engineOf, Way, whole, marked, pieces, Outcome, ran}
 
 -- both engines keep twins
 pub engine-twins : (engine : Which) → KeepsTwins (engineOf engine)
@@ -19,22 +19,30 @@ unfolding engineOf
 engine-twins fast = effect-twins
 engine-twins plain = pencil-twins
 
-module _ {a b : Board} (t : Twins a b) where
-  pub way-given : (way : Way) → ran way a .given ≡ ran way b .given
-  unfolding ran
-  way-given (whole engine list) = ap (λ (v : Bad). v ∷ []) (given-twins list t (engineOf engine) (engine-twins engine))
-  way-given (marked engine rows list) = ap (λ (v : Bad). v ∷ []) (marked-given list rows t (engineOf engine) (engine-twins engine))
-  way-given (pieces cutting) =
-      ap₂ (λ (vs : List Bad) (v : Bad). vs ++ v ∷ []) (answers-twins cutting (pack fresh) t) (ends-twins cutting (pack fresh) t .given)
+-- what two boards have in common after a list
+pub record TwinOutcomes (o u : Outcome) : Type 0 where
+  pub given : o .given ≡ u .given
+  pub rows : o .rows ≡ u .rows
+  pub after : Twins (o .after) (u .after)
 
-  pub way-rows : (way : Way) → ran way a .rows ≡ ran way b .rows
-  unfolding ran
-  way-rows (whole engine list) = refl
-  way-rows (marked engine rows list) = marked-rows list rows t (engineOf engine) (engine-twins engine)
-  way-rows (pieces cutting) = refl
-
-  pub way-after : (way : Way) → Twins (ran way a .after) (ran way b .after)
-  unfolding ran
-  way-after (whole engine list) = after-twins list t (engineOf engine) (engine-twins engine)
-  way-after (marked engine rows list) = marked-after list rows t (engineOf engine) (engine-twins engine)
-  way-after (pieces cutting) = ends-twins cutting (pack fresh) t .after
+pub way-twins : {a b : Board} → Twins a b → (way : Way) → TwinOutcomes (ran way a) (ran way b)
+unfolding ran
+way-twins t (whole engine list) =
+    let e = engineOf engine in
+    let keeps = engine-twins engine in
+    record { given = ap (λ (v : Bad). v ∷ []) (given-twins list t e keeps); rows = refl; after = after-twins list t e keeps }
+way-twins t (marked engine rows list) =
+    let e = engineOf engine in
+    let keeps = engine-twins engine in
+    record {
+      given = ap (λ (v : Bad). v ∷ []) (marked-given list rows t e keeps);
+      rows = marked-rows list rows t e keeps;
+      after = marked-after list rows t e keeps;
+    }
+way-twins t (pieces cutting) =
+    let k = ends-twins cutting (pack fresh) t in
+    record {
+      given = ap₂ (λ (vs : List Bad) (v : Bad). vs ++ v ∷ []) (answers-twins cutting (pack fresh) t) (k .given);
+      rows = refl;
+      after = k .after;
+    }

@@ -6,9 +6,10 @@ use Prim.Native.Nat.{ℕ, _≤_}
 use native.Mathlib.Decide.{ℕ-discrete}
 use lib.Dec.{eqb}
 use lib.ListN.{length}
+use Rattle.vram.specs.Memory.{Words}
 use Rattle.vram.specs.Board.{Board}
 use Rattle.vram.specs.Step.{givenOf, rowsOf, step}
-use Rattle.vram.specs.High.{Agree, Words, spares, allSpare}
+use Rattle.vram.specs.High.{Agree, spares, allSpare}
 use Rattle.vram.specs.SpareLaws.{spare-none, spare-next, spare-first, spare-others, run-spares}
 use Rattle.list.specs.Fields.{Field, Reads, Unreadable, fields}
 use Rattle.list.specs.VerdictLaws.{cycles-reads, cycles-none, number-unreadable}

@@ -3,11 +3,12 @@ use Prim.Native.Nat.{ℕ, suc, _*_, _<_, _≤_}
 use mathlib.Core.Path.{_≡_}
 use mathlib.Core.Bool.{true, false, cond}
 use mathlib.Core.List.{List, [], _∷_}
-use lib.ListN.{length, getD, take}
+use lib.ListN.{length, take}
 use Rattle.words.specs.Bit.{bit}
 use Rattle.words.specs.Word.{merged}
 use Rattle.vram.specs.declared.Vram.{Vram}
 use Rattle.vram.specs.State.{withColour, withMask, ruled}
+use Rattle.vram.specs.Memory.{Words}
 use Rattle.vram.specs.Board.{Board, board}
 use Rattle.list.specs.Meaning.{bad, gives, verdictOf, runCall, countOf}
 use Rattle.planner.specs.declared.Filled.{Filled}
@@ -45,7 +46,7 @@ pub record Wide (f : Fill) : Type 0 where
 -- a memory of the rows fitted: 512 words to a row, each of 16 bits
 pub record Memory (rows : ℕ) (m : List ℕ) : Type 0 where
   pub size : length m ≡ 512 * rows
-  pub words : (a : ℕ) → getD m a 0 < 65536
+  pub words : Words m
 
 -- a board that the rules allow, with the rows fitted, not persistent
 pub record Start (rows : ℕ) (b : Board) : Type 0 where

@@ -3,9 +3,8 @@
 use mathlib.Core.Path.{_≡_}
 use mathlib.Core.Bool.{Bool, true, _&&_, _||_}
 use mathlib.Core.List.{List, [], _∷_, map}
-use Prim.Native.Nat.{ℕ, _<_}
+use Prim.Native.Nat.{ℕ}
 use lib.Dec.{eqb, ltb}
-use lib.ListN.{getD}
 use Rattle.words.specs.Word.{high}
 use Rattle.vram.specs.declared.Vram.{Vram}
 use Rattle.vram.specs.declared.Cycle.{Cycle}
@@ -30,10 +29,6 @@ abbrev pub KeepsTwins : Engine → Type 0
 KeepsTwins e = (c : Cycle) (a b : Board) → Twins a b → Twins (e c a) (e c b)
 
 -- ---- cycles that reach no high byte
-
--- words of 16 bits
-abbrev pub Words : List ℕ → Type 0
-Words m = (a : ℕ) → getD m a 0 < 65536
 
 -- a write: its strobes leave the high byte out, or the mask in force has no bit of it
 abbrev pub below : Vram → ℕ → ℕ → ℕ → Bool

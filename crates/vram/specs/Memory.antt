@@ -1,10 +1,14 @@
 -- What a cycle does to a slice of words. Assumes nothing.
-use Prim.Native.Nat.{ℕ, zero, suc, _+_}
+use Prim.Native.Nat.{ℕ, zero, suc, _+_, _<_}
 use mathlib.Core.Bool.{Bool}
 use mathlib.Core.List.{List}
 use lib.ListN.{getD, set, drop}
 use lib.Seq.{paste}
 use Rattle.words.specs.Word.{merged}
+
+-- every word has 16 bits
+abbrev pub Words : List ℕ → Type 0
+Words m = (a : ℕ) → getD m a 0 < 65536
 
 -- the word at a place takes new's bits where `through` says so
 unfoldable pub put : List ℕ → ℕ → ℕ → (ℕ → Bool) → List ℕ

@@ -7,14 +7,14 @@ use Prim.Native.Nat.{ℕ, zero, suc, _-_, _%_, _<_}
 use native.Mathlib.Omega.{arith}
 use native.Mathlib.Nat.{mod-eq-of-lt}
 use lib.Dec.{eqb}
-use lib.ListN.{length, getD}
+use lib.ListN.{length}
 use borrow.Author.Tests.{eqb-false}
 use Rattle.vram.specs.declared.Vram.{Vram}
 use Rattle.vram.specs.declared.Waiting.{Waiting}
 use Rattle.vram.specs.declared.Waiting.the-variants.{None, Tap}
 use Rattle.vram.specs.declared.Cycle.{Cycle}
 use Rattle.vram.specs.State.{withColour, withMask, waitingOk, ruled}
-use Rattle.vram.specs.Memory.{puts}
+use Rattle.vram.specs.Memory.{Words, puts}
 use Rattle.vram.specs.MemoryLaws.{copied-length}
 use Rattle.vram.specs.Board.{Board, effect}
 use Rattle.vram.specs.RefusalLaws.{given-zero, given-rule}
@@ -57,12 +57,12 @@ run-sized l b =
 
 -- ---- words of 16 bits stay such
 
-pub step-words : (c : Cycle) (b : Board) → ((a : ℕ) → getD (b .memory) a 0 < 65536) → (a : ℕ) → getD (step c b .memory) a 0 < 65536
+pub step-words : (c : Cycle) (b : Board) → Words (b .memory) → Words (step c b .memory)
 step-words c b h =
-    step-holds (λ x. (a : ℕ) → getD (x .memory) a 0 < 65536) effect c b h (λ z a. rw (effect-writes c b) (written-words (writes c (b .state)) (b .memory) h a))
+    step-holds (λ x. Words (x .memory)) effect c b h (λ z a. rw (effect-writes c b) (written-words (writes c (b .state)) (b .memory) h a))
 
-pub run-words : (l : List Cycle) (b : Board) → ((a : ℕ) → getD (b .memory) a 0 < 65536) → (a : ℕ) → getD (run l b .memory) a 0 < 65536
-run-words = run-holds (λ x. (a : ℕ) → getD (x .memory) a 0 < 65536) step step-words
+pub run-words : (l : List Cycle) (b : Board) → Words (b .memory) → Words (run l b .memory)
+run-words = run-holds (λ x. Words (x .memory)) step step-words
 
 -- ---- rows: a write touches only the row that it names
 

@@ -1,6 +1,6 @@
 -- Cycles that reach no high byte leave every one: a list that writes results alone leaves every mark. Assumes nothing.
 use mathlib.Core.Path.{_≡_, refl, ap, _∙_}
-use mathlib.Core.Bool.{Bool, true, false, _&&_, _||_, cond, and-false}
+use mathlib.Core.Bool.{Bool, true, false, _&&_, _||_, and-false}
 use mathlib.Core.List.{List, [], _∷_}
 use mathlib.Core.Logic.{_⊎_, inl, inr, ⊎-elim}
 use Prim.Native.Nat.{ℕ, _-_, _≤_}
@@ -9,11 +9,12 @@ use borrow.Author.Tests.{eqb-true, ltb-true}
 use Rattle.numbers.specs.Between.{both}
 use Rattle.words.specs.Bit.{bit}
 use Rattle.words.specs.BitLaws.{bit-above}
-use Rattle.words.specs.Word.{merged, covers, lets, high}
-use Rattle.words.specs.WordLaws.{merged-low, covers-low}
+use Rattle.words.specs.Word.{covers, lets, high}
+use Rattle.words.specs.WordLaws.{low-kept, covers-low}
 use Rattle.vram.specs.declared.Vram.{Vram}
 use Rattle.vram.specs.declared.Cycle.{Cycle}
 use Rattle.vram.specs.declared.Cycle.the-variants.{WordWrite, BlockWrite, LoadColour, LoadMask, ResetRefresh, FullTransfer, SplitTransfer, StopPoints}
+use Rattle.vram.specs.Memory.{Words}
 use Rattle.vram.specs.MemoryLaws.{among}
 use Rattle.vram.specs.Board.{Board, inForce, allowed, effect}
 use Rattle.vram.specs.Writes.{Writes, base, writes, written, written-length, written-at}
@@ -21,7 +22,7 @@ use Rattle.vram.specs.Sets.{effect-writes}
 use Rattle.vram.specs.Step.{runBy, step, run}
 use Rattle.vram.specs.StepLaws.{step-holds}
 use Rattle.vram.specs.RuleLaws.{step-words}
-use Rattle.vram.specs.High.{Agree, Words, below, spares, allSpare}
+use Rattle.vram.specs.High.{Agree, below, spares, allSpare}
 use Rattle.vram.specs.HighLaws.{agree-from}
 
 -- no bit of a high byte is let through
@@ -51,11 +52,9 @@ spares-low (SplitTransfer row half tap) s h j b l = refl
 spares-low (StopPoints length) s h j b l = refl
 
 written-spares : (w : Writes) (m : List ℕ) → Words m → ((j : ℕ) → Low (w .through j)) → Agree (written w m) m
-written-spares w m k h = agree-from (written-length w m) (λ a l. ap high (written-at w m a (rw (written-length w m) at l)) ∙ go a (among (base w) (w .count) a))
-  where
-    go : (a : ℕ) (t : Bool) → high (cond t (merged (getD m a 0) (w .pen) (w .through (a - base w))) (getD m a 0)) ≡ high (getD m a 0)
-    go a true = merged-low (getD m a 0) (w .pen) (w .through (a - base w)) (k a) (h (a - base w))
-    go a false = refl
+written-spares w m k h = agree-from (written-length w m)
+    (λ a l. ap high (written-at w m a (rw (written-length w m) at l))
+    ∙ low-kept (among (base w) (w .count) a) (getD m a 0) (w .pen) (w .through (a - base w)) (k a) (h (a - base w)))
 
 -- ---- a cycle, and cycles in order
 

@@ -14,7 +14,7 @@ use Rattle.words.specs.WordLaws.{merged-lt, merged-bit}
 use Rattle.vram.specs.declared.Vram.{Vram}
 use Rattle.vram.specs.declared.Cycle.{Cycle}
 use Rattle.vram.specs.declared.Cycle.the-variants.{WordWrite, BlockWrite, LoadColour, LoadMask, ResetRefresh, FullTransfer, SplitTransfer, StopPoints}
-use Rattle.vram.specs.Memory.{puts}
+use Rattle.vram.specs.Memory.{Words, puts}
 use Rattle.vram.specs.MemoryLaws.{puts-length, among, puts-at, puts-part}
 use Rattle.vram.specs.Board.{allowed}
 
@@ -75,7 +75,7 @@ module _ (w : Writes) (m : List ℕ) where
       go false = refl
 
   -- words of 16 bits stay such
-  pub written-words : ((a : ℕ) → getD m a 0 < 65536) → (a : ℕ) → getD (written w m) a 0 < 65536
+  pub written-words : Words m → Words (written w m)
   written-words h a = go (ltb a (length m)) refl
     where
       word : (t : Bool) → cond t (merged (getD m a 0) (w .pen) (w .through (a - base w))) (getD m a 0) < 65536

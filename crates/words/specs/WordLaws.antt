@@ -98,11 +98,16 @@ merged-high x y u v w e f =
     (λ b h. high-bit x u w b h ∙ ap₂ (λ (m n : ℕ). cond (w (8 + b)) (bit m b) (bit n b)) f e ∙ sym (high-bit y v w b h))
 
 -- and is the old high byte where no bit of it is let through
-pub merged-low : (x new : ℕ) (w : ℕ → Bool) → x < 2 ^ 16 → ((b : ℕ) → 8 ≤ b → w b ≡ false) → high (merged x new w) ≡ high x
+merged-low : (x new : ℕ) (w : ℕ → Bool) → x < 2 ^ 16 → ((b : ℕ) → 8 ≤ b → w b ≡ false) → high (merged x new w) ≡ high x
 unfolding high
 merged-low x new w l h =
     bits-eq 8 (merged x new w / 2 ^ 8) (x / 2 ^ 8) (shr-lt 8 8 (merged-lt x new w)) (shr-lt 8 8 l)
     (λ b k. high-bit x new w b k ∙ ap (λ (t : Bool). cond t (bit (new / 2 ^ 8) b) (bit (x / 2 ^ 8) b)) (h (8 + b) (omega arith)))
+
+-- so a word that is merged or left keeps it
+pub low-kept : (t : Bool) (x new : ℕ) (w : ℕ → Bool) → x < 2 ^ 16 → ((b : ℕ) → 8 ≤ b → w b ≡ false) → high (cond t (merged x new w) x) ≡ high x
+low-kept true x new w l h = merged-low x new w l h
+low-kept false x new w l h = refl
 
 pub high-is : (w : ℕ) → high w ≡ w / 256
 unfolding high
