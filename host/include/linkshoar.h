@@ -1,6 +1,6 @@
 /* Linkshoar: a proved stand-in for one TMS55161 video RAM and one Am81C176 palette, a planner of shortest fills, marks of the rows that a
- * link must send, a second engine that can be followed with a pencil, lists that come in pieces over a slow port, and for the older boards
- * the counters of an Am8150.
+ * link must send, a second engine that can be followed with a pencil, lists that come in pieces over a slow port, and for other boards the
+ * counters of an Am8150 and the colours of an Am8159.
  *
  * The caller holds the states and lends the memory; nothing is allocated, nothing is kept, and no call blocks. A state goes in by value and
  * the new one comes back in the answer: keep it, since the next call takes it. Every call takes every input: what it cannot do it refuses
@@ -19,7 +19,8 @@
  *   memory   512 words to a row, 1 to 512 rows: row r, column c is word 512 * r + c. Its length says how many rows are fitted.
  *   serial   the serial register, 256 words: transfers copy half a row of the memory to it, clocks read it.
  *   table    the palette's 256 entries, 768 bytes: entry e has red at 3 * e, green at 3 * e + 1, blue at 3 * e + 2. The low six bits of
- *            a byte are read, 0 to 63. The caller may write it in place, or by linkshoar_palette_write as the chip is written.
+ *            a byte are read, 0 to 63. The caller may write it in place, or by linkshoar_palette_write as the chip is written. The
+ *            Am8159's calls are lent that chip's table, 64 words: see "The Am8159's colours" below.
  *   list     cycles as bytes: see "Lists" below; a piece of one: see "Lists in pieces".
  *   marks    a mark for each of 512 rows, 64 bytes: see "Marks of rows" below.
  *   rectangles   a page's rectangles as bytes: see "Pages" below.
@@ -34,7 +35,10 @@
 extern "C" {
 #endif
 
-/* Since 4.11.0 a list can be taken a piece at a time: linkshoar_pieces_fresh, linkshoar_pieces_take, linkshoar_pieces_end. No program must
+/* Since 4.12.0 there are the Am8159's colours: linkshoar_colours_fresh, linkshoar_colours_write, linkshoar_colours_write_low,
+ * linkshoar_colours_write_high, linkshoar_colours_read, linkshoar_colours_read_low, linkshoar_colours_read_high, linkshoar_colours_pixel,
+ * and numbers 21 and 22 are new. No program must change.
+ * Since 4.11.0 a list can be taken a piece at a time: linkshoar_pieces_fresh, linkshoar_pieces_take, linkshoar_pieces_end. No program must
  * change; one that gathers a list from a slow port before it runs it may hand each piece on as it comes (see "Lists in pieces"), if it can
  * bear that a refused list is drawn in part, and that it may leave the mask persistent.
  * Since 4.10.0 there is a second engine for lists, the plain one: linkshoar_pencil_run, linkshoar_pencil_run_marked. No program must change;
@@ -64,7 +68,7 @@ extern "C" {
  * program that fills both bytes with FFFF to show entry 255 fills them with 00FF.
  * Since 4.3.0 the two palette reads take the table, and after a read of blue the colour registers take the next entry and the address goes
  * up by one: a program that then reads the same entry again, writes colours or reads the address sets the address first. */
-#define LINKSHOAR_VERSION "4.11.0"
+#define LINKSHOAR_VERSION "4.12.0"
 
 /* The numbers given back. Where several apply the lowest is given; in a list the first bad field wins, then its lowest number, and 20 is
  * given only where no field is refused; in a page the first bad field wins over 13 and 15; 18 comes straight after 3, before 5 and before
@@ -90,7 +94,9 @@ enum {
     LINKSHOAR_VIDEO_OFF_OR_OVERRIDE = 17,
     LINKSHOAR_MARKS_LENGTH = 18,
     LINKSHOAR_PARTITION_OTHER = 19,
-    LINKSHOAR_MASK_LEFT_BEHIND = 20
+    LINKSHOAR_MASK_LEFT_BEHIND = 20,
+    LINKSHOAR_ADDRESS_OR_DATA_OVER = 21,
+    LINKSHOAR_NO_LOW_PART = 22
 };
 
 /* Sizes. */
@@ -103,7 +109,8 @@ enum {
     LINKSHOAR_FIELD_BYTES = 13,     /* the longest field of a list */
     LINKSHOAR_RECTANGLE_BYTES = 15, /* a rectangle of a page */
     LINKSHOAR_MARKS_BYTES = 64,     /* a mark for each of 512 rows */
-    LINKSHOAR_ADDRESSES = 262144    /* the Am8150's addresses: 18 bits */
+    LINKSHOAR_ADDRESSES = 262144,   /* the Am8150's addresses: 18 bits */
+    LINKSHOAR_COLOURS_WORDS = 64    /* the Am8159's table */
 };
 
 /* The high bytes that are no mark: what the panel shows of a word then. Every other, 1 to 254, is a mark, and is shown whatever the low byte. */
@@ -134,6 +141,14 @@ enum {
     LINKSHOAR_UPDATE_RETRACE = 0,    /* in the retrace only */
     LINKSHOAR_UPDATE_OVERRIDE = 1,   /* always: no words are fetched */
     LINKSHOAR_UPDATE_INTERLEAVED = 2 /* between two words; not together with page mode */
+};
+
+/* The levels of the Am8159's outputs that have a name; a level of 0 to 15 is a step of colour, 15 the brightest. None is a voltage. */
+enum {
+    LINKSHOAR_LEVEL_SYNC = 16,  /* of green alone */
+    LINKSHOAR_LEVEL_BLANK = 17,
+    LINKSHOAR_LEVEL_BLACK = 18, /* reference black: an overlay's gun that is off; on the part as dark as step 0 */
+    LINKSHOAR_LEVEL_WHITE = 19  /* peak white: an overlay's gun that is on; on the part brighter than step 15 */
 };
 
 /* The video RAM's registers. */
@@ -245,6 +260,37 @@ typedef struct {
     uint32_t number;
     uint8_t bank, row, column; /* the address of the word fetched: bits 17 and 16, 15 to 8, 7 to 0 */
 } linkshoar_fetched;
+
+/* What the Am8159's three guns show: each a step, 0 to 15, or one of LINKSHOAR_LEVEL_. */
+typedef struct {
+    uint8_t red, green, blue;
+} linkshoar_levels;
+
+/* The Am8159's state. */
+typedef struct {
+    uint8_t waiting, low;                  /* waiting: 1 where a low part waits for its high part, and low is that part; else both are 0 */
+    linkshoar_levels first, second, third; /* the outputs to come, first the next. The levels of each are such as a pixel makes: green at
+                                              sync with red and blue at blank; all at blank; each at black or white; each at a step */
+} linkshoar_colours;
+
+/* What a pixel puts in; a yes-or-no byte that is not 0 is yes. */
+typedef struct {
+    uint32_t address; /* of its colour in the table, 0 to 63 */
+    uint8_t horizontal_sync, vertical_sync, blank;
+    uint8_t overlay, red_on, green_on, blue_on; /* overlay: the guns, on or off, are shown in place of the colour */
+    uint8_t blink;
+} linkshoar_inputs;
+
+typedef struct {
+    linkshoar_colours state;
+    uint32_t number;
+} linkshoar_coloured;
+
+typedef struct {
+    linkshoar_colours state;
+    linkshoar_levels levels; /* what comes out at this clock */
+    uint32_t number;
+} linkshoar_emitted;
 
 /* ---- Lists
  *
@@ -634,6 +680,59 @@ linkshoar_controlled linkshoar_controller_vertical_sync(linkshoar_controller sta
 /* A video word: answers the counter's address, then raises the counter by one. Refused with 1, 17. */
 linkshoar_fetched linkshoar_controller_fetch(linkshoar_controller state);
 
+/* ---- The Am8159's colours
+ *
+ * The table is LINKSHOAR_COLOURS_WORDS lent words, of which thirteen bits are read: red in bits 0 to 3, green in 4 to 7, blue in 8 to 11,
+ * blink in bit 12. The caller may write it in place, or as the chip is written: in 16 bits by linkshoar_colours_write, or in 8 bits, the
+ * low part by linkshoar_colours_write_low and then the high part by linkshoar_colours_write_high, which has the address and stores both.
+ * What is stored by a call has zeros above bit 12.
+ *
+ * Each pixel is one clock, and what it asks for comes out three clocks later, with the table as it was when the pixel went in: a write in
+ * between changes no pixel that is under way. From a fresh state the first three outputs are at blank. So n pixels of a line, and three
+ * blanked ones to bring the last of them out, are n + 3 clocks:
+ *
+ *   linkshoar_colours state = linkshoar_colours_fresh();
+ *   linkshoar_inputs blanked = {.blank = 1};
+ *   for (size_t k = 0; k < n + 3; k++) {
+ *       linkshoar_emitted e = linkshoar_colours_pixel(state, table, LINKSHOAR_COLOURS_WORDS, k < n ? line[k] : blanked);
+ *       if (e.number)
+ *           stop(linkshoar_strerror(e.number));
+ *       state = e.state;
+ *       if (k >= 3)
+ *           show(k - 3, e.levels);
+ *   }
+ *
+ * What a pixel asks for is the first of these that holds:
+ *   one sync of the two    green at sync, red and blue at blank
+ *   both syncs, or blank   all at blank
+ *   overlay                each gun at white where it is on, at black where it is off
+ *   else                   the colour at the address, each gun at its step; where blink is yes and the colour's bit 12 is 1, all twelve
+ *                          colour bits are inverted: step s is 15 - s
+ *
+ * Each call with a state is refused with 1 for one that the rules exclude: see linkshoar_colours. */
+
+/* The state at power-on: no low part waits, and the next three outputs are at blank. */
+linkshoar_colours linkshoar_colours_fresh(void);
+
+/* Stores data, 0 to 8191, at the address, 0 to 63; a low part that waits is dropped. Refused with 1, 3, 21. */
+linkshoar_coloured linkshoar_colours_write(linkshoar_colours state, uint16_t *table, size_t words, uint32_t address, uint32_t data);
+
+/* Bits 0 to 7 of a word: they wait, in place of a low part that waited, and the table is not written yet. Refused with 1. */
+linkshoar_coloured linkshoar_colours_write_low(linkshoar_colours state, uint8_t low);
+
+/* Bits 8 to 12 of a word in bits 0 to 4, the others ignored: stores it, with the low part that waits, at the address, 0 to 63. No low part
+ * waits afterwards; where the call is refused, one that waited still does. Refused with 1, 3, 21, 22. */
+linkshoar_coloured linkshoar_colours_write_high(linkshoar_colours state, uint16_t *table, size_t words, uint32_t address, uint8_t high);
+
+/* The word at the address, 0 to 63: its thirteen bits; bits 0 to 7; bits 8 to 12 in bits 0 to 4. What is above is 0. Refused with 3, 21. */
+linkshoar_word linkshoar_colours_read(const uint16_t *table, size_t words, uint32_t address);
+linkshoar_byte linkshoar_colours_read_low(const uint16_t *table, size_t words, uint32_t address);
+linkshoar_byte linkshoar_colours_read_high(const uint16_t *table, size_t words, uint32_t address);
+
+/* A clock: answers what the third pixel before this one asked for, and takes this one's inputs in. The address is judged whether its colour
+ * is shown or not. A refused pixel is no clock, and its levels, zeros, are no output. Refused with 1, 3, 21. */
+linkshoar_emitted linkshoar_colours_pixel(linkshoar_colours state, const uint16_t *table, size_t words, linkshoar_inputs inputs);
+
 /* What a number means, in a few words. */
 static inline const char *linkshoar_strerror(uint32_t number)
 {
@@ -641,7 +740,7 @@ static inline const char *linkshoar_strerror(uint32_t number)
     case LINKSHOAR_DONE: return "done";
     case LINKSHOAR_STATE_EXCLUDED: return "a state, or a held field, that the rules exclude";
     case LINKSHOAR_MEMORY_LENGTH: return "memory length or rows fitted not 1 to 512 rows";
-    case LINKSHOAR_REGISTER_LENGTH: return "serial register not 256 words, or palette table not 768 bytes";
+    case LINKSHOAR_REGISTER_LENGTH: return "serial register not 256 words, palette table not 768 bytes, or the Am8159's not 64 words";
     case LINKSHOAR_FIELD_UNREADABLE: return "unknown tag, wrong length, a field cut short, or a list too long";
     case LINKSHOAR_ROW_NOT_FITTED: return "row not fitted, or a start row over 511";
     case LINKSHOAR_COLUMN_OVER: return "column over 511";
@@ -659,6 +758,8 @@ static inline const char *linkshoar_strerror(uint32_t number)
     case LINKSHOAR_MARKS_LENGTH: return "marks not 64 bytes";
     case LINKSHOAR_PARTITION_OTHER: return "partition length not 16, 32, 64 or 128";
     case LINKSHOAR_MASK_LEFT_BEHIND: return "a mask load with no reset refresh after it in the list";
+    case LINKSHOAR_ADDRESS_OR_DATA_OVER: return "address over 63, or data over 8191";
+    case LINKSHOAR_NO_LOW_PART: return "a high part with no low part waiting";
     default: return "unknown number";
     }
 }

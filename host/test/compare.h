@@ -4,7 +4,7 @@
 
 #include "linkshoar.h"
 
-enum { NUMBERS = 21 }; /* 0 to 20 are given */
+enum { NUMBERS = 23 }; /* 0 to 22 are given */
 
 extern unsigned long long calls, seen[NUMBERS];
 

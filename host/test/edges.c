@@ -220,4 +220,5 @@ void try_edges(void)
     every_length();
     every_place();
     palette_edges();
+    colours_edges();
 }

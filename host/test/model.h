@@ -2,8 +2,8 @@
  * from the proved code. The test program compares the two. FAULT plants one error: 1 to 6 those that document 01 lists or that earlier
  * versions had, 7 to 17 the Am8150's, 18 to 20 those of a palette read, 21 to 24 those of reverse video, 25 to 29 those of parts of eight
  * bits, 30 to 38 those of stop points, 39 to 46 those of masks left behind, 47 to 55 those of a page, 56 to 68 those of marks of rows, 69 to
- * 78 those of the plain engine, 79 to 96 those of lists in pieces, 97 to 102 results that reach a mark, a number or a mark's pixel. Each must
- * be found. */
+ * 78 those of the plain engine, 79 to 96 those of lists in pieces, 97 to 102 results that reach a mark, a number or a mark's pixel, 103 to
+ * 150 the Am8159's. Each must be found. */
 #ifndef MODEL_H
 #define MODEL_H
 
@@ -64,5 +64,15 @@ linkshoar_controlled model_controller_video(linkshoar_controller state, uint32_t
 linkshoar_controlled model_controller_horizontal_sync(linkshoar_controller state);
 linkshoar_controlled model_controller_vertical_sync(linkshoar_controller state);
 linkshoar_fetched model_controller_fetch(linkshoar_controller state);
+
+/* model_colours.c */
+linkshoar_colours model_colours_fresh(void);
+linkshoar_coloured model_colours_write(linkshoar_colours state, uint16_t *table, size_t words, uint32_t address, uint32_t data);
+linkshoar_coloured model_colours_write_low(linkshoar_colours state, uint8_t low);
+linkshoar_coloured model_colours_write_high(linkshoar_colours state, uint16_t *table, size_t words, uint32_t address, uint8_t high);
+linkshoar_word model_colours_read(const uint16_t *table, size_t words, uint32_t address);
+linkshoar_byte model_colours_read_low(const uint16_t *table, size_t words, uint32_t address);
+linkshoar_byte model_colours_read_high(const uint16_t *table, size_t words, uint32_t address);
+linkshoar_emitted model_colours_pixel(linkshoar_colours state, const uint16_t *table, size_t words, linkshoar_inputs inputs);
 
 #endif

@@ -47,7 +47,7 @@ static linkshoar_pieces damaged(linkshoar_pieces p)
     switch (below(7)) {
     case 0: p.left = chance(2) ? p.start - below(2) : any(); break;
     case 1: p.start = chance(2) ? UINT32_MAX - below(16) : chance(2) ? below(16) : any(); break;
-    case 2: p.number = chance(4) ? any() : below(22); break;
+    case 2: p.number = chance(4) ? any() : below(NUMBERS + 1); break;
     case 3: p.held[below(sizeof p.held)] = (uint8_t)(chance(2) ? below(12) : any()); break;
     case 4: p.count = (uint8_t)(chance(8) ? any() : below(15)); break;
     case 5: p.open = (uint8_t)(chance(8) ? any() : below(3)); break;
@@ -252,12 +252,12 @@ static void both_calls(linkshoar_pieces p)
 /* Every member at its edge and just past it, alone and beside others. */
 static void every_member(void)
 {
-    static const uint32_t numbers[] = {UINT32_MAX, 256 + 4, 65536 + 19, 21, 22};
+    static const uint32_t numbers[] = {UINT32_MAX, 256 + 4, 65536 + 19, NUMBERS, NUMBERS + 1};
     lend(put(bytes_a, LINKSHOAR_TAG_BLOCK_WRITE));
-    for (unsigned n = 0; n <= 20 + sizeof numbers / sizeof *numbers; n++) /* refusals, with nothing, and with each of what they exclude */
+    for (unsigned n = 0; n < NUMBERS + sizeof numbers / sizeof *numbers; n++) /* refusals, with nothing and with what they exclude */
         for (unsigned with = 0; with < 8; with++) {
             linkshoar_pieces p = holding(with == 7 ? UINT32_MAX : 40, with == 1);
-            p.number = n <= 20 ? n : numbers[n - 21];
+            p.number = n < NUMBERS ? n : numbers[n - NUMBERS];
             p.open = with == 2 || with == 3 ? 1 : 0;
             p.left = with == 3 || with == 4 ? 7 : 0;
             p.held[0] = with == 5 ? 1 : p.held[0];

@@ -90,10 +90,10 @@ static void try_fresh(void)
         differ("linkshoar_palette_fresh");
 }
 
-/* Fifteen, and one time in twenty-four one of the last five, which are ten to forty calls each. */
+/* Fifteen, and one time in seventeen one of the last seven, which are ten to forty calls each. */
 static void (*const tries[])(void) = {try_fill, try_page, try_read, try_clock, try_panel, try_palette, try_palette, try_lent, try_list,
                                       try_list, try_list, try_pencil, try_pencil, try_marks, try_marks, try_link, try_controller, try_frame,
-                                      try_pieces, try_cutting};
+                                      try_pieces, try_cutting, try_colours, try_pipe};
 
 int main(int argc, char **argv)
 {
@@ -107,7 +107,7 @@ int main(int argc, char **argv)
     try_edges();
     try_saved();
     while (calls < most || (seconds > 0 && difftime(time(NULL), began) < seconds)) {
-        tries[chance(24) ? 15 + below(5) : below(15)]();
+        tries[chance(17) ? 15 + below(7) : below(15)]();
         if (chance(2000))
             same_all();
     }

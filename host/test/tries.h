@@ -20,5 +20,9 @@ void try_fields(void);     /* fields.c: the header's functions that write a fiel
 void try_saved(void);      /* saved.c: a palette saved by reading, written back and compared with the table's own bytes */
 void try_controller(void); /* controller.c: a random session of the Am8150 */
 void try_frame(void);      /* controller.c: frames of the Am8150, against the address of each word in closed form */
+void try_colours(void);    /* colours.c: a random session of the Am8159 */
+void try_pipe(void);       /* colours.c: pixels with writes between them, each output against what was asked for three pixels before */
+void colours_edges(void);  /* colours.c: the sheet's function table row by row; every address written and read in both widths; every length,
+                              address and datum about the right one, with every pair of refusals; levels of every kind together */
 
 #endif

@@ -1,5 +1,6 @@
 // The numbers given back: document 01, "Numbers given back"; 16 and 17 are change request M-100's, 18 is M-104's, 19 is M-107's, 20 is
-// M-111's. Each call answers one of them; 0 is done, and of several that hold the lowest is given, but 18 comes straight after 3.
+// M-111's, 21 and 22 are M-112's. Each call answers one of them; 0 is done, and of several that hold the lowest is given, but 18 comes
+// straight after 3.
 ghost use mathlib.Core.Path.{_≡_};
 ghost use Rattle.numbers.specs.Refuse.{refuse};
 
@@ -44,6 +45,10 @@ pub const MARKS_LENGTH: u32 = 18;
 pub const PARTITION_OTHER: u32 = 19;
 
 pub const MASK_LEFT_BEHIND: u32 = 20;
+
+pub const ADDRESS_OR_DATA_OVER: u32 = 21;
+
+pub const NO_LOW_PART: u32 = 22;
 
 // The number where the test fails; where it holds, what the later tests say.
 pub fn refuse(holds: bool, number: u32, later: u32) -> u32

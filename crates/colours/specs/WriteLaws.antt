@@ -1,0 +1,162 @@
+-- The two ways to write agree, and the reads give back what was written. Assumes nothing.
+use mathlib.Core.Path.{_≡_, refl, sym, ap, _∙_}
+use mathlib.Core.Bool.{Bool, true, false}
+use mathlib.Core.List.{List, [], _∷_}
+use mathlib.Core.Logic.{_≢_}
+use Prim.Native.Nat.{ℕ, _+_, _*_, _/_, _%_, _≤_, _<_}
+use native.Mathlib.Omega.{arith}
+use lib.Dec.{eqb}
+use lib.ListN.{length, getD, set, length-set}
+use lib.Seq.{getD-set-same, getD-set-other}
+use Rattle.colours.specs.declared.Colours.{Colours}
+use Rattle.colours.specs.declared.Coloured.{Coloured}
+use Rattle.colours.specs.declared.Waiting.{Waiting}
+use Rattle.colours.specs.declared.Waiting.the-variants.{None, Low}
+use Rattle.colours.specs.Table.{wordAt, lowOf, highOf, joined}
+use Rattle.colours.specs.State.{withWaiting, waits, lowWaiting, ruled}
+use Rattle.colours.specs.Calls.{writeRefusal, highRefusal, lowRefusal, readRefusal, coloured, Outcome, outcome, writeCall, writeLowCall, writeHighCall, worded, byted, readCall, readLowCall, readHighCall}
+use Rattle.colours.specs.CallLaws.{Reached, Ready, high-22, write-makes, low-makes, high-makes, read-makes, read-low-makes, read-high-makes}
+use Rattle.colours.specs.StateLaws.{waiting-ruled, leaves-holds}
+
+-- ---- a word and its two parts
+
+pub parts-joined : (value : ℕ) → value ≤ 8191 → joined (lowOf value) (highOf value) ≡ value
+parts-joined value h = omega arith
+
+pub joined-small : (low high : ℕ) → low < 256 → joined low high ≤ 8191
+joined-small low high h = omega arith
+
+-- ---- the low part, then the high part
+
+-- a state in which another low part waits is as ready
+ready-waiting : (s : Colours) (words address : ℕ) (w : Waiting) → Ready s words address → Ready (withWaiting s w) words address
+ready-waiting s words address w r = record { rule = waiting-ruled s w ∙ r .rule; reached = r .reached }
+
+module _ (s : Colours) (t : List ℕ) (address : ℕ) (r : Ready s (length t) address) where
+  -- low then high at an address leaves what the 16-bit write of the two together leaves: answer, state and table
+  pub parts-agree : (low high : ℕ) → low < 256
+      → writeHighCall (writeLowCall s low .state) t address high ≡ writeCall s t address (joined low high)
+  parts-agree low high h =
+      ap (λ (x : Coloured). writeHighCall (x .state) t address high) (low-makes s t low (r .rule))
+      ∙ high-makes (withWaiting s (Low low)) t address high (ready-waiting s (length t) address (Low low) r) refl
+      ∙ sym (write-makes s t address (joined low high) r (joined-small low high h))
+
+  -- and every 16-bit write can be made so
+  pub write-in-parts : (value : ℕ) → value ≤ 8191
+      → writeHighCall (writeLowCall s (lowOf value) .state) t address (highOf value) ≡ writeCall s t address value
+  write-in-parts value h =
+      parts-agree (lowOf value) (highOf value) (omega arith) ∙ ap (writeCall s t address) (parts-joined value h)
+
+  -- a 16-bit write drops the part that waits, a high part uses it up: one high part more is refused, with 22
+  none-waiting : (t′ : List ℕ) (address′ high : ℕ) → Reached (length t′) address′
+      → writeHighCall (withWaiting s None) t′ address′ high .answer .number ≡ 22
+  unfolding writeHighCall
+  none-waiting t′ address′ high g =
+      high-22 (withWaiting s None) (length t′) address′ (record { rule = waiting-ruled s None ∙ r .rule; reached = g }) refl
+
+  pub high-after-write : (value : ℕ) → value ≤ 8191 → (t′ : List ℕ) (address′ high : ℕ) → Reached (length t′) address′
+      → writeHighCall (writeCall s t address value .answer .state) t′ address′ high .answer .number ≡ 22
+  high-after-write value h t′ address′ high g =
+      ap (λ (o : Outcome). writeHighCall (o .answer .state) t′ address′ high .answer .number) (write-makes s t address value r h)
+      ∙ none-waiting t′ address′ high g
+
+  pub high-after-high : (high : ℕ) → waits (s .waiting) ≡ true → (t′ : List ℕ) (address′ high′ : ℕ) → Reached (length t′) address′
+      → writeHighCall (writeHighCall s t address high .answer .state) t′ address′ high′ .answer .number ≡ 22
+  high-after-high high w t′ address′ high′ g =
+      ap (λ (o : Outcome). writeHighCall (o .answer .state) t′ address′ high′ .answer .number) (high-makes s t address high r w)
+      ∙ none-waiting t′ address′ high′ g
+
+-- bits 5 to 7 of the high part are ignored
+pub high-bits-ignored : (s : Colours) (t : List ℕ) (address high : ℕ) → writeHighCall s t address (high % 32) ≡ writeHighCall s t address high
+unfolding writeHighCall
+high-bits-ignored s t address high = let e : high % 32 % 32 ≡ high % 32 = omega arith in rw e
+
+-- a new low part replaces the one that waits: as if there had been none
+pub low-replaces : (s : Colours) (low low′ : ℕ) → writeLowCall (writeLowCall s low .state) low′ ≡ writeLowCall s low′
+unfolding writeLowCall lowRefusal
+low-replaces s low low′ = go (ruled s) refl
+  where
+    go : (b : Bool) → ruled s ≡ b → writeLowCall (writeLowCall s low .state) low′ ≡ writeLowCall s low′
+    go true e = rw (e, waiting-ruled s (Low low), e)
+    go false e = rw (e, e)
+
+-- ---- reads
+
+-- a stored word of thirteen bits is what stands there
+stored : (t : List ℕ) (address value : ℕ) → address < length t → value ≤ 8191 → wordAt (set t address value) address ≡ value
+stored t address value l h = rw (getD-set-same t address value 0 l) (omega arith)
+
+module _ (s : Colours) (t : List ℕ) (address value : ℕ) (r : Ready s (length t) address) (h : value ≤ 8191) where
+  abbrev after : List ℕ
+  after = writeCall s t address value .table
+
+  after-is : after ≡ set t address value
+  after-is = ap (λ (o : Outcome). o .table) (write-makes s t address value r h)
+
+  here : wordAt after address ≡ value
+  here = ap (λ (l : List ℕ). wordAt l address) after-is ∙ stored t address value (omega (arith, r .reached .table, r .reached .within)) h
+
+  reached : Reached (length after) address
+  reached = rw (after-is, length-set t address value) (r .reached)
+
+  -- what was written, in 16 bits and in 8; with `parts-agree` the same of what was written in 8
+  pub read-back : readCall after address ≡ worded 0 value
+  read-back = read-makes after address reached ∙ ap (worded 0) here
+
+  pub read-low-back : readLowCall after address ≡ byted 0 (lowOf value)
+  read-low-back = read-low-makes after address reached ∙ ap (λ (w : ℕ). byted 0 (lowOf w)) here
+
+  pub read-high-back : readHighCall after address ≡ byted 0 (highOf value)
+  read-high-back = read-high-makes after address reached ∙ ap (λ (w : ℕ). byted 0 (highOf w)) here
+
+-- the two parts of a word that was written in parts: the low one as it was, of the high one five bits
+joined-low : (low high : ℕ) → low < 256 → lowOf (joined low high) ≡ low
+joined-low low high h = omega arith
+
+joined-high : (low high : ℕ) → low < 256 → highOf (joined low high) ≡ high % 32
+joined-high low high h = omega arith
+
+module _ (s : Colours) (t : List ℕ) (address low high : ℕ) (r : Ready s (length t) address) (h : low < 256) where
+  abbrev afterParts : List ℕ
+  afterParts = writeHighCall (writeLowCall s low .state) t address high .table
+
+  -- the table is that of the 16-bit write
+  same : afterParts ≡ writeCall s t address (joined low high) .table
+  same = ap (λ (o : Outcome). o .table) (parts-agree s t address r low high h)
+
+  pub parts-read : readCall afterParts address ≡ worded 0 (joined low high)
+  parts-read =
+      ap (λ (l : List ℕ). readCall l address) same ∙ read-back s t address (joined low high) r (joined-small low high h)
+
+  pub parts-read-low : readLowCall afterParts address ≡ byted 0 low
+  parts-read-low =
+      ap (λ (l : List ℕ). readLowCall l address) same
+      ∙ read-low-back s t address (joined low high) r (joined-small low high h)
+      ∙ ap (byted 0) (joined-low low high h)
+
+  pub parts-read-high : readHighCall afterParts address ≡ byted 0 (high % 32)
+  parts-read-high =
+      ap (λ (l : List ℕ). readHighCall l address) same
+      ∙ read-high-back s t address (joined low high) r (joined-small low high h)
+      ∙ ap (byted 0) (joined-high low high h)
+
+-- every other word is as it was, whatever was written, accepted or not
+module _ (s : Colours) (t : List ℕ) (address other : ℕ) (n : other ≢ address) where
+  pub write-others : (value : ℕ) → getD (writeCall s t address value .table) other 0 ≡ getD t other 0
+  unfolding writeCall
+  write-others value =
+      leaves-holds (λ (l : List ℕ). getD l other 0 ≡ getD t other 0) (writeRefusal s (length t) address value) t (set t address value)
+      refl (getD-set-other t address other value 0 n)
+
+  pub high-others : (high : ℕ) → getD (writeHighCall s t address high .table) other 0 ≡ getD t other 0
+  unfolding writeHighCall
+  high-others high =
+      leaves-holds (λ (l : List ℕ). getD l other 0 ≡ getD t other 0) (highRefusal s (length t) address)
+      t (set t address (joined (lowWaiting (s .waiting)) high))
+      refl (getD-set-other t address other (joined (lowWaiting (s .waiting)) high) 0 n)
+
+-- zeros above bit 4 of a high read, refused or not
+pub high-read-small : (t : List ℕ) (address : ℕ) → readHighCall t address .byte < 32
+unfolding readHighCall
+high-read-small t address =
+    leaves-holds (λ (n : ℕ). n < 32) (readRefusal (length t) address) 0 (highOf (wordAt t address)) (omega arith) (omega arith)

@@ -1,0 +1,112 @@
+// The Am8159 colour palette: its table, the two ways to reach it, and what comes out for a pixel. Source document 003: Pin Description,
+// Functional Description with Table 1 (the modes) and Table 2 (the function table), Color Data Input/Output; change request M-112 decides
+// what they leave open.
+// A call stands for a whole access, or for one pixel clock with its inputs. Not modelled: volts, currents and the reference, the converters
+// and their timing, pin edges and the clocks between accesses; so in Update and Readback nothing is shown, and the pipe waits.
+// Where sheet and request differ, or the sheet is silent: the sheet's list of delayed signals leaves out BLINK, here all inputs of a pixel
+// have the same delay; the sheet latches the RAM's word one clock after the address, here the table is read as the inputs enter, so a write
+// between changes nothing that is on its way; the sheet gives the low level of an overlay and step 0 one voltage, here each is a level of its
+// own; where no low part was written the sheet says nothing of five high bits, here they are refused; before the first pixel comes out
+// the outputs are at blank level.
+ghost use mathlib.Core.Path.{_≡_};
+ghost use Rattle.colours.specs.State.{fresh};
+
+mod access;
+mod parts;
+mod pixel;
+pub mod reads;
+mod shown;
+mod state;
+mod writes;
+
+// The level of one gun: a step of the colour, or a name.
+pub enum Level {
+    Step(u8),
+    Sync,
+    Blank,
+    Black,
+    White,
+}
+
+// The levels of the three guns.
+pub struct Levels {
+    pub red: Level,
+    pub green: Level,
+    pub blue: Level,
+}
+
+// What comes out for a pixel: nothing but what a pixel can make. An overlay has each gun on or off, a colour three steps.
+pub enum Output {
+    Sync,
+    Blank,
+    Overlay { red: bool, green: bool, blue: bool },
+    Colour { red: u8, green: u8, blue: u8 },
+}
+
+// The low eight bits of a word, kept until the high five come.
+pub enum Waiting {
+    None,
+    Low(u8),
+}
+
+// The low part that waits, and the three outputs on their way: `first` is the next to come out. Every field is public: a state with a step
+// over 15, which the rules exclude, can be built, and is refused.
+pub struct Colours {
+    pub waiting: Waiting,
+    pub first: Output,
+    pub second: Output,
+    pub third: Output,
+}
+
+// The inputs of a pixel.
+pub struct Inputs {
+    pub address: u32,
+    pub horizontal_sync: bool,
+    pub vertical_sync: bool,
+    pub blank: bool,
+    pub overlay: bool,
+    pub red_on: bool,
+    pub green_on: bool,
+    pub blue_on: bool,
+    pub blink: bool,
+}
+
+// The state after a write, and the number given back.
+pub struct Coloured {
+    pub state: Colours,
+    pub number: u32,
+}
+
+// The state after a pixel, what came out, and the number given back.
+pub struct Emitted {
+    pub state: Colours,
+    pub output: Output,
+    pub number: u32,
+}
+
+// What a 16-bit read answers: the number given back, and the word.
+#[repr(C)]
+pub struct Word {
+    pub number: u32,
+    pub word: u16,
+}
+
+// What an 8-bit read answers: the number given back, and the part.
+#[repr(C)]
+pub struct Byte {
+    pub number: u32,
+    pub byte: u8,
+}
+
+impl Colours {
+    pub fn fresh() -> Colours
+        ensures { λ r. ⌜ r ≡ fresh ⌝ }
+    {
+        Colours {
+            waiting: Waiting::None,
+            first: Output::Blank,
+            second: Output::Blank,
+            third: Output::Blank,
+        }
+    }
+}

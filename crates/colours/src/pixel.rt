@@ -1,0 +1,33 @@
+// One pixel clock: inputs enter, and what entered three clocks before comes out.
+ghost use mathlib.Core.Path.{_≡_};
+ghost use Rattle.colours.specs.Calls.{pixelCall};
+use crate::Colours;
+use crate::Emitted;
+use crate::Inputs;
+use crate::Output;
+use crate::access::table_refusal;
+use crate::access::word_at;
+
+impl Colours {
+    // The table is read as the inputs enter. A refused pixel answers zeros and does not move the pipe.
+    pub fn pixel(self, table: &[u16], inputs: Inputs) -> Emitted
+        ensures { λ r. ⌜ r ≡ pixelCall self (now (table .entry)) inputs ⌝ }
+    {
+        let address = inputs.address;
+        let n = table_refusal(table.len(), address <= 63, true);
+        let n = self.refusal(n);
+        if n != numbers::DONE {
+            return self.emitted(
+                n,
+                Output::Colour {
+                    red: 0,
+                    green: 0,
+                    blue: 0,
+                },
+            );
+        }
+        let asked = inputs.shown(word_at(table, address));
+        let first = self.first;
+        self.moved(asked).emitted(numbers::DONE, first)
+    }
+}

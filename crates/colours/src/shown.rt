@@ -1,0 +1,96 @@
+// What a pixel asks for, and the levels that it is.
+ghost use mathlib.Core.Path.{_≡_};
+ghost use Rattle.colours.specs.Output.{colourOf, blinked, shown, overlaid, levelsOf};
+use crate::Inputs;
+use crate::Level;
+use crate::Levels;
+use crate::Output;
+
+// The twelve colour bits of a word; blink together with the word's blink bit inverts them.
+fn blinked(blink: bool, word: u16) -> u16
+    ensures { λ r. ⌜ r ≡ blinked blink word ⌝ }
+{
+    let bits = word % 4096;
+    if blink & (word / 4096 % 2 == 1) {
+        return 4095 - bits;
+    }
+    bits
+}
+
+// Three steps of four bits each: red, green, blue.
+fn colour(bits: u16) -> Output
+    ensures { λ r. ⌜ r ≡ colourOf bits ⌝ }
+{
+    Output::Colour {
+        red: (bits % 16) as u8,
+        green: (bits / 16 % 16) as u8,
+        blue: (bits / 256 % 16) as u8,
+    }
+}
+
+impl Inputs {
+    // What these inputs ask for with the word at their address: sync, blank, overlay, colour, in this order.
+    pub(crate) fn shown(self, word: u16) -> Output
+        ensures { λ r. ⌜ r ≡ shown self word ⌝ }
+    {
+        let horizontal = self.horizontal_sync;
+        let vertical = self.vertical_sync;
+        let blank = self.blank;
+        let overlay = self.overlay;
+        let both = horizontal & vertical;
+        if (horizontal | vertical) & !both {
+            return Output::Sync;
+        }
+        if both | blank {
+            return Output::Blank;
+        }
+        if overlay {
+            return Output::Overlay {
+                red: self.red_on,
+                green: self.green_on,
+                blue: self.blue_on,
+            };
+        }
+        colour(blinked(self.blink, word))
+    }
+}
+
+// A gun in an overlay: peak white where it is on, reference black where it is off.
+fn overlaid(on: bool) -> Level
+    ensures { λ r. ⌜ r ≡ overlaid on ⌝ }
+{
+    if on {
+        return Level::White;
+    }
+    Level::Black
+}
+
+impl Output {
+    // The level of each gun.
+    pub fn levels(self) -> Levels
+        ensures { λ r. ⌜ r ≡ levelsOf self ⌝ }
+    {
+        match self {
+            Output::Sync => Levels {
+                red: Level::Blank,
+                green: Level::Sync,
+                blue: Level::Blank,
+            },
+            Output::Blank => Levels {
+                red: Level::Blank,
+                green: Level::Blank,
+                blue: Level::Blank,
+            },
+            Output::Overlay { red, green, blue } => Levels {
+                red: overlaid(red),
+                green: overlaid(green),
+                blue: overlaid(blue),
+            },
+            Output::Colour { red, green, blue } => Levels {
+                red: Level::Step(red),
+                green: Level::Step(green),
+                blue: Level::Step(blue),
+            },
+        }
+    }
+}

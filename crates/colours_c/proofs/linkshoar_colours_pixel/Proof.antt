@@ -1,0 +1,54 @@
+-- `colours_c::linkshoar_colours_pixel` meets its contract. Assumes nothing.
+use borrow.Author.Needs.{needs}
+use mathlib.Core.Path.{sym, _∙_}
+use Rattle.colours_c.specs.CallLaws.{pixel-excluded, pixel-done}
+use Rattle.colours_c.proofs.linkshoar_colours_pixel.Statement.{statement}
+use Rattle.colours_c.proofs.linkshoar_colours_pixel.Tie as tie
+
+lawful-requires : tie.Need-lawful-requires
+lawful-requires c κs = search needs
+
+take-requires : tie.Need-take-requires
+take-requires c κs = search needs
+
+take-inputs-requires : tie.Need-take-inputs-requires
+take-inputs-requires c κs = search needs
+
+pixel-requires : tie.Need-pixel-requires
+pixel-requires c κs = search needs
+
+answer-pixel-requires : tie.Need-answer-pixel-requires
+answer-pixel-requires c κs = search needs
+
+returns : tie.Need-returns
+returns c =
+    let r = c .before in
+    let i = r .before in
+    let t = i .before in
+    let l = t .before .before in
+    let a = l .before .before .args in
+    c .answer-pixel .ensures
+    ∙ pixel-done (a .state) (sym (l .lawful .ensures) ∙ t .before .if1 .taken) (t .take .ensures) (a .table .now) (a .inputs)
+    (i .take-inputs .ensures) (r .pixel .ensures)
+
+excluded-pixel-requires : tie.Need-excluded-pixel-requires
+excluded-pixel-requires c κs = search needs
+
+returns-2 : tie.Need-returns-2
+returns-2 c =
+    let l = c .before .before in
+    let a = l .before .before .args in
+    c .excluded-pixel .ensures ∙ pixel-excluded (a .state) (sym (l .lawful .ensures) ∙ c .before .if1 .left) (a .table .now) (a .inputs)
+
+pub linkshoar-colours-pixel-spec : {M : Type 1} → statement M
+linkshoar-colours-pixel-spec =
+    tie.close
+    (tie.spec
+    lawful-requires
+    take-requires
+    take-inputs-requires
+    pixel-requires
+    answer-pixel-requires
+    returns
+    excluded-pixel-requires
+    returns-2)

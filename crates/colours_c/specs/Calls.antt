@@ -1,0 +1,58 @@
+-- What each export answers and leaves, for every input: the call below it on the state taken, or 1 and the state as it came where the rules
+-- exclude it. The reads have no state, and are the calls below. Assumes nothing.
+use Prim.Native.Nat.{ℕ}
+use mathlib.Core.Bool.{cond}
+use mathlib.Core.List.{List}
+use Rattle.colours.specs.declared.Colours.{Colours}
+use Rattle.colours.specs.declared.Coloured.{Coloured as Below}
+use Rattle.colours.specs.declared.Emitted.{Emitted as EmittedBelow}
+use Rattle.colours.specs.Calls.{Outcome as OutcomeBelow, writeCall, writeLowCall, writeHighCall, pixelCall}
+use Rattle.colours_c.specs.declared.Held.{Held}
+use Rattle.colours_c.specs.declared.Pins.{Pins}
+use Rattle.colours_c.specs.declared.Coloured.{Coloured}
+use Rattle.colours_c.specs.declared.Emitted.{Emitted}
+use Rattle.colours_c.specs.Levels.{triple, handedOutput}
+use Rattle.colours_c.specs.State.{lawful, taken, handed, takenInputs}
+
+abbrev pub handedOn : Below → Coloured
+handedOn r = record { state = handed (r .state); number = r .number }
+
+abbrev pub heldExcluded : Held → Coloured
+heldExcluded h = record { state = h; number = 1 }
+
+unfoldable pub heldLow : Held → ℕ → Coloured
+heldLow h low = cond (lawful h) (handedOn (writeLowCall (taken h) low)) (heldExcluded h)
+
+-- ---- writes to the table
+
+-- what is answered, and the table afterwards
+pub record Outcome : Type 0 where
+  pub answer : Coloured
+  pub table : List ℕ
+
+abbrev pub outcome : Coloured → List ℕ → Outcome
+outcome r t = record { answer = r; table = t }
+
+abbrev pub handedOutcome : OutcomeBelow → Outcome
+handedOutcome o = outcome (handedOn (o .answer)) (o .table)
+
+-- any write below
+unfoldable pub heldBy : (Colours → List ℕ → OutcomeBelow) → Held → List ℕ → Outcome
+heldBy call h t = cond (lawful h) (handedOutcome (call (taken h) t)) (outcome (heldExcluded h) t)
+
+abbrev pub heldWrite : Held → List ℕ → ℕ → ℕ → Outcome
+heldWrite h t address value = heldBy (λ s l. writeCall s l address value) h t
+
+abbrev pub heldHigh : Held → List ℕ → ℕ → ℕ → Outcome
+heldHigh h t address high = heldBy (λ s l. writeHighCall s l address high) h t
+
+-- ---- a pixel
+
+abbrev pub handedOnPixel : EmittedBelow → Emitted
+handedOnPixel r = record { state = handed (r .state); levels = handedOutput (r .output); number = r .number }
+
+abbrev pub pixelExcluded : Held → Emitted
+pixelExcluded h = record { state = h; levels = triple 0 0 0; number = 1 }
+
+unfoldable pub heldPixel : Held → List ℕ → Pins → Emitted
+heldPixel h t p = cond (lawful h) (handedOnPixel (pixelCall (taken h) t (takenInputs p))) (pixelExcluded h)
