@@ -1,5 +1,5 @@
 -- The number that a call gives, and which calls are accepted; a call is refused and changes nothing, or is done. Assumes nothing.
-use mathlib.Core.Path.{_≡_, refl, sym, _∙_}
+use mathlib.Core.Path.{_≡_, refl}
 use mathlib.Core.Bool.{Bool, true, false, _&&_}
 use mathlib.Core.List.{List}
 use mathlib.Core.Logic.{_≢_}
@@ -9,10 +9,9 @@ use lib.ListN.{length, set}
 use borrow.Author.Tests.{eqb-true, leb-true, ne-eqb, le-leb}
 use Rattle.numbers.specs.Between.{both}
 use Rattle.numbers.specs.Refuse.{refuse}
-use Rattle.numbers.specs.RefuseLaws.{refuse-zero, leaves-before}
+use Rattle.numbers.specs.RefuseLaws.{refuse-zero}
 use Rattle.colours.specs.declared.Colours.{Colours}
 use Rattle.colours.specs.declared.Waiting.the-variants.{None, Low}
-use Rattle.colours.specs.declared.Output.{Output}
 use Rattle.colours.specs.declared.Output.the-variants.{Colour}
 use Rattle.colours.specs.declared.Inputs.{Inputs}
 use Rattle.colours.specs.Table.{wordAt, lowOf, highOf, joined}

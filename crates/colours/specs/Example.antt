@@ -6,7 +6,6 @@ use mathlib.Core.Bool.{Bool, true, false}
 use mathlib.Core.List.{List, [], _∷_}
 use lib.ListN.{replicate}
 use Rattle.words.specs.Bit.{bit}
-use Rattle.colours.specs.declared.Colours.{Colours}
 use Rattle.colours.specs.declared.Waiting.{Waiting}
 use Rattle.colours.specs.declared.Waiting.the-variants.{None, Low}
 use Rattle.colours.specs.declared.Output.{Output}
@@ -14,7 +13,7 @@ use Rattle.colours.specs.declared.Output.the-variants.{Sync, Blank, Over
 use Rattle.colours.specs.declared.Inputs.{Inputs}
 use Rattle.colours.specs.Output.{shown}
 use Rattle.colours.specs.State.{fresh, ruled}
-use Rattle.colours.specs.Calls.{writeRefusal, lowRefusal, highRefusal, pixelRefusal, coloured, emitted, writeCall, writeLowCall, writeHighCall, pixelCall}
+use Rattle.colours.specs.Calls.{writeRefusal, lowRefusal, highRefusal, pixelRefusal, writeCall, writeLowCall, writeHighCall, pixelCall}
 use Rattle.colours.specs.Session.{Board, board, Write, WriteLow, WriteHigh, Pixel, after}
 
 -- a call, the number that it gives, and the low part that waits then; or a pixel, its number and what comes out
@@ -43,13 +42,13 @@ abbrev inputs : ℕ → Bool → Bool → Bool → Bool → Inputs
 inputs address sync blank overlay blink =
     record {
       address = address;
-      «horizontal_sync» = sync;
-      «vertical_sync» = false;
+      horizontal = sync;
+      vertical = false;
       blank = blank;
       overlay = overlay;
-      «red_on» = true;
-      «green_on» = false;
-      «blue_on» = true;
+      red = true;
+      green = false;
+      blue = true;
       blink = blink;
     }
 

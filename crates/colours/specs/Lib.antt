@@ -10,10 +10,12 @@ pub mod State
 pub mod Calls
 -- calls one after the other, and the accepted pixels among them
 pub mod Session
--- the four cases of a pixel, and what blink inverts
-pub mod OutputLaws
 -- the sheet's function table, row by row
 pub mod FunctionTable
+-- the four cases of a pixel, and what blink inverts
+pub mod OutputLaws
+-- every row of the function table holds, and every pixel fits one
+pub mod FunctionTableLaws
 -- what is accepted; a refusal changes nothing
 pub mod CallLaws
 -- the rule is kept; a write moves nothing in the pipe, a pixel leaves the low part

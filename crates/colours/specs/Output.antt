@@ -20,17 +20,17 @@ abbrev pub colourOf : ℕ → Output
 colourOf bits = Colour (bits % 16) (bits / 16 % 16) (bits / 256 % 16)
 
 abbrev pub bothSyncs : Inputs → Bool
-bothSyncs i = i .«horizontal_sync» && i .«vertical_sync»
+bothSyncs i = i .horizontal && i .vertical
 
 abbrev pub oneSync : Inputs → Bool
-oneSync i = (i .«horizontal_sync» || i .«vertical_sync») && not (bothSyncs i)
+oneSync i = (i .horizontal || i .vertical) && not (bothSyncs i)
 
 -- one sync of the two; both, or blank; overlay; colour
 unfoldable pub shown : Inputs → ℕ → Output
 shown i word =
     cond (oneSync i) Sync
     (cond (bothSyncs i || i .blank) Blank
-    (cond (i .overlay) (Overlay (i .«red_on») (i .«green_on») (i .«blue_on»))
+    (cond (i .overlay) (Overlay (i .red) (i .green) (i .blue))
     (colourOf (blinked (i .blink) word))))
 
 -- ---- the level of each gun

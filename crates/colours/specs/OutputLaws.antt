@@ -8,7 +8,6 @@ use borrow.Author.Tests.{le-leb}
 use Rattle.words.specs.Bit.{bit}
 use Rattle.words.specs.BitLaws.{bit-mod, bit-not}
 use Rattle.colours.specs.declared.Inputs.{Inputs}
-use Rattle.colours.specs.declared.Output.{Output}
 use Rattle.colours.specs.declared.Output.the-variants.{Sync, Blank, Overlay}
 use Rattle.colours.specs.Output.{blinked, colourOf, bothSyncs, oneSync, shown}
 use Rattle.colours.specs.State.{stepsOk}
@@ -26,7 +25,7 @@ module _ (i : Inputs) (word : ℕ) where
     shown-blank b = rw (s, b)
 
     module _ (b : (bothSyncs i || i .blank) ≡ false) where
-      pub shown-overlay : i .overlay ≡ true → shown i word ≡ Overlay (i .«red_on») (i .«green_on») (i .«blue_on»)
+      pub shown-overlay : i .overlay ≡ true → shown i word ≡ Overlay (i .red) (i .green) (i .blue)
       unfolding shown
       shown-overlay o = rw (s, b, o)
 
@@ -57,13 +56,13 @@ abbrev pub withBlink : Inputs → Bool → Inputs
 withBlink i blink =
     record {
       address = i .address;
-      «horizontal_sync» = i .«horizontal_sync»;
-      «vertical_sync» = i .«vertical_sync»;
+      horizontal = i .horizontal;
+      vertical = i .vertical;
       blank = i .blank;
       overlay = i .overlay;
-      «red_on» = i .«red_on»;
-      «green_on» = i .«green_on»;
-      «blue_on» = i .«blue_on»;
+      red = i .red;
+      green = i .green;
+      blue = i .blue;
       blink = blink;
     }
 
@@ -82,8 +81,8 @@ blink-only i blink word e = go (oneSync i) (bothSyncs i) (i .blank) (i .overlay)
     same false q = refl
 
     go : (s b k o : Bool) → (not (s || b || k || o) && bit word 12) ≡ false
-        → cond s Sync (cond (b || k) Blank (cond o (Overlay (i .«red_on») (i .«green_on») (i .«blue_on»)) (colourOf (blinked blink word))))
-        ≡ cond s Sync (cond (b || k) Blank (cond o (Overlay (i .«red_on») (i .«green_on») (i .«blue_on»)) (colourOf (blinked (i .blink) word))))
+        → cond s Sync (cond (b || k) Blank (cond o (Overlay (i .red) (i .green) (i .blue)) (colourOf (blinked blink word))))
+        ≡ cond s Sync (cond (b || k) Blank (cond o (Overlay (i .red) (i .green) (i .blue)) (colourOf (blinked (i .blink) word))))
     go true b k o e = refl
     go false true k o e = refl
     go false false true o e = refl
@@ -101,7 +100,7 @@ unfolding shown
 shown-ok i word = go (oneSync i) (bothSyncs i || i .blank) (i .overlay)
   where
     go : (s b o : Bool)
-        → stepsOk (cond s Sync (cond b Blank (cond o (Overlay (i .«red_on») (i .«green_on») (i .«blue_on»)) (colourOf (blinked (i .blink) word)))))
+        → stepsOk (cond s Sync (cond b Blank (cond o (Overlay (i .red) (i .green) (i .blue)) (colourOf (blinked (i .blink) word)))))
         ≡ true
     go true b o = refl
     go false true o = refl

@@ -1,13 +1,11 @@
 -- The pipe: what comes out is what was asked for three accepted pixels before, with the table as it was then. Assumes nothing.
-use mathlib.Core.Path.{_≡_, refl, sym, ap, ap₂, _∙_}
+use mathlib.Core.Path.{_≡_, refl, sym, ap, _∙_}
 use mathlib.Core.Bool.{Bool, true, false, cond}
 use mathlib.Core.List.{List, [], _∷_, _++_, map}
 use Prim.Native.Nat.{ℕ, zero, suc, _+_, _<_}
 use native.Mathlib.Omega.{arith}
 use lib.Dec.{eqb}
-use lib.ListN.{length, getD, length-map, List·getD-append, List·getD-map}
-use borrow.Author.Tests.{eqb-true}
-use Rattle.colours.specs.declared.Colours.{Colours}
+use lib.ListN.{length, getD, length-map, List·getD-append}
 use Rattle.colours.specs.declared.Output.{Output}
 use Rattle.colours.specs.declared.Output.the-variants.{Blank, Colour}
 use Rattle.colours.specs.declared.Inputs.{Inputs}

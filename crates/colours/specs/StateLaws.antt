@@ -10,7 +10,6 @@ use Rattle.numbers.specs.Refuse.{leaves}
 use Rattle.colours.specs.declared.Colours.{Colours}
 use Rattle.colours.specs.declared.Waiting.{Waiting}
 use Rattle.colours.specs.declared.Waiting.the-variants.{None, Low}
-use Rattle.colours.specs.declared.Output.{Output}
 use Rattle.colours.specs.declared.Inputs.{Inputs}
 use Rattle.colours.specs.Table.{wordAt}
 use Rattle.colours.specs.OutputLaws.{shown-ok}

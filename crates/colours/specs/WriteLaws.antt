@@ -1,11 +1,10 @@
 -- The two ways to write agree, and the reads give back what was written. Assumes nothing.
 use mathlib.Core.Path.{_≡_, refl, sym, ap, _∙_}
 use mathlib.Core.Bool.{Bool, true, false}
-use mathlib.Core.List.{List, [], _∷_}
+use mathlib.Core.List.{List}
 use mathlib.Core.Logic.{_≢_}
-use Prim.Native.Nat.{ℕ, _+_, _*_, _/_, _%_, _≤_, _<_}
+use Prim.Native.Nat.{ℕ, _%_, _≤_, _<_}
 use native.Mathlib.Omega.{arith}
-use lib.Dec.{eqb}
 use lib.ListN.{length, getD, set, length-set}
 use lib.Seq.{getD-set-same, getD-set-other}
 use Rattle.colours.specs.declared.Colours.{Colours}
@@ -14,7 +13,7 @@ use Rattle.colours.specs.declared.Waiting.{Waiting}
 use Rattle.colours.specs.declared.Waiting.the-variants.{None, Low}
 use Rattle.colours.specs.Table.{wordAt, lowOf, highOf, joined}
 use Rattle.colours.specs.State.{withWaiting, waits, lowWaiting, ruled}
-use Rattle.colours.specs.Calls.{writeRefusal, highRefusal, lowRefusal, readRefusal, coloured, Outcome, outcome, writeCall, writeLowCall, writeHighCall, worded, byted, readCall, readLowCall, readHighCall}
+use Rattle.colours.specs.Calls.{writeRefusal, highRefusal, lowRefusal, readRefusal, Outcome, writeCall, writeLowCall, writeHighCall, worded, byted, readCall, readLowCall, readHighCall}
 use Rattle.colours.specs.CallLaws.{Reached, Ready, high-22, write-makes, low-makes, high-makes, read-makes, read-low-makes, read-high-makes}
 use Rattle.colours.specs.StateLaws.{waiting-ruled, leaves-holds}
 

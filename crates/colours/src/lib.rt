@@ -58,16 +58,16 @@ pub struct Colours {
     pub third: Output,
 }
 
-// The inputs of a pixel.
+// The inputs of a pixel: `horizontal` and `vertical` are the two syncs, `red`, `green` and `blue` the guns that an overlay has on.
 pub struct Inputs {
     pub address: u32,
-    pub horizontal_sync: bool,
-    pub vertical_sync: bool,
+    pub horizontal: bool,
+    pub vertical: bool,
     pub blank: bool,
     pub overlay: bool,
-    pub red_on: bool,
-    pub green_on: bool,
-    pub blue_on: bool,
+    pub red: bool,
+    pub green: bool,
+    pub blue: bool,
     pub blink: bool,
 }
 

@@ -33,8 +33,8 @@ impl Inputs {
     pub(crate) fn shown(self, word: u16) -> Output
         ensures { λ r. ⌜ r ≡ shown self word ⌝ }
     {
-        let horizontal = self.horizontal_sync;
-        let vertical = self.vertical_sync;
+        let horizontal = self.horizontal;
+        let vertical = self.vertical;
         let blank = self.blank;
         let overlay = self.overlay;
         let both = horizontal & vertical;
@@ -46,9 +46,9 @@ impl Inputs {
         }
         if overlay {
             return Output::Overlay {
-                red: self.red_on,
-                green: self.green_on,
-                blue: self.blue_on,
+                red: self.red,
+                green: self.green,
+                blue: self.blue,
             };
         }
         colour(blinked(self.blink, word))

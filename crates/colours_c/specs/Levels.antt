@@ -4,7 +4,6 @@ use mathlib.Core.Bool.{Bool, _&&_, _||_, cond}
 use lib.Dec.{eqb, leb}
 use Rattle.colours.specs.declared.Level.{Level}
 use Rattle.colours.specs.declared.Level.the-variants as level
-use Rattle.colours.specs.declared.Levels.{Levels}
 use Rattle.colours.specs.declared.Output.{Output}
 use Rattle.colours.specs.declared.Output.the-variants.{Sync, Blank, Overlay, Colour}
 use Rattle.colours.specs.Output.{levelsOf}

@@ -41,12 +41,12 @@ unfoldable pub takenInputs : Pins → Inputs
 takenInputs p =
     record {
       address = p .address;
-      «horizontal_sync» = not (eqb (p .«horizontal_sync») 0);
-      «vertical_sync» = not (eqb (p .«vertical_sync») 0);
+      horizontal = not (eqb (p .horizontal) 0);
+      vertical = not (eqb (p .vertical) 0);
       blank = not (eqb (p .blank) 0);
       overlay = not (eqb (p .overlay) 0);
-      «red_on» = not (eqb (p .«red_on») 0);
-      «green_on» = not (eqb (p .«green_on») 0);
-      «blue_on» = not (eqb (p .«blue_on») 0);
+      red = not (eqb (p .red) 0);
+      green = not (eqb (p .green) 0);
+      blue = not (eqb (p .blue) 0);
       blink = not (eqb (p .blink) 0);
     }

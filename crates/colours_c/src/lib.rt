@@ -41,17 +41,17 @@ pub struct Held {
     pub third: Triple,
 }
 
-// The inputs of a pixel as C has them.
+// The inputs of a pixel as C has them, where the syncs are `horizontal_sync` and `vertical_sync` and the guns `red_on` and so on.
 #[repr(C)]
 pub struct Pins {
     pub address: u32,
-    pub horizontal_sync: u8,
-    pub vertical_sync: u8,
+    pub horizontal: u8,
+    pub vertical: u8,
     pub blank: u8,
     pub overlay: u8,
-    pub red_on: u8,
-    pub green_on: u8,
-    pub blue_on: u8,
+    pub red: u8,
+    pub green: u8,
+    pub blue: u8,
     pub blink: u8,
 }
 

@@ -62,13 +62,13 @@ pub(crate) fn take_inputs(inputs: Pins) -> Inputs
 {
     Inputs {
         address: inputs.address,
-        horizontal_sync: inputs.horizontal_sync != 0,
-        vertical_sync: inputs.vertical_sync != 0,
+        horizontal: inputs.horizontal != 0,
+        vertical: inputs.vertical != 0,
         blank: inputs.blank != 0,
         overlay: inputs.overlay != 0,
-        red_on: inputs.red_on != 0,
-        green_on: inputs.green_on != 0,
-        blue_on: inputs.blue_on != 0,
+        red: inputs.red != 0,
+        green: inputs.green != 0,
+        blue: inputs.blue != 0,
         blink: inputs.blink != 0,
     }
 }
