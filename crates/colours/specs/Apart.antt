@@ -15,23 +15,29 @@ use Rattle.colours.specs.StateLaws.{pixel-waiting}
 use Rattle.colours.specs.Session.{Board, Event, Write, WriteLow, WriteHigh, Pixel, Lend, after, session}
 use Rattle.colours.specs.SessionLaws.{session-ruled}
 
--- no write among them
+-- no write
+abbrev pub NotWrite : Event → Type 0
+NotWrite (Write address value) = ⊥
+NotWrite (WriteLow low) = ⊥
+NotWrite (WriteHigh address high) = ⊥
+NotWrite (Pixel i) = Unit {0}
+NotWrite (Lend t) = Unit {0}
+
+after-waits : (e : Event) (b : Board) → NotWrite e → after e b .state .waiting ≡ b .state .waiting
+after-waits (Write address value) b n = absurd n
+after-waits (WriteLow low) b n = absurd n
+after-waits (WriteHigh address high) b n = absurd n
+after-waits (Pixel i) b n = pixel-waiting (b .state) (b .table) i
+after-waits (Lend t) b n = refl
+
 abbrev pub NoWrite : List Event → Type 0
 NoWrite [] = Unit {0}
-NoWrite (Write address value ∷ es) = ⊥
-NoWrite (WriteLow low ∷ es) = ⊥
-NoWrite (WriteHigh address high ∷ es) = ⊥
-NoWrite (Pixel i ∷ es) = NoWrite es
-NoWrite (Lend t ∷ es) = NoWrite es
+NoWrite (e ∷ es) = NotWrite e × NoWrite es
 
 -- pixels, accepted and refused, leave the low part as it is
 pub low-waits : (es : List Event) (b : Board) → NoWrite es → session es b .state .waiting ≡ b .state .waiting
 low-waits [] b n = refl
-low-waits (Write address value ∷ es) b n = absurd n
-low-waits (WriteLow low ∷ es) b n = absurd n
-low-waits (WriteHigh address high ∷ es) b n = absurd n
-low-waits (Pixel i ∷ es) b n = low-waits es (after (Pixel i) b) n ∙ pixel-waiting (b .state) (b .table) i
-low-waits (Lend t ∷ es) b n = low-waits es (after (Lend t) b) n
+low-waits (e ∷ es) b n = low-waits es (after e b) (n .1) ∙ after-waits e b (n .0)
 
 -- low, then pixels, then high: the word of the two parts is stored at the address given with the high one
 module _ (es : List Event) (n : NoWrite es) (b : Board) (r : ruled (b .state) ≡ true) (low : ℕ) where

@@ -14,39 +14,66 @@ use Rattle.colours.specs.Calls.{pixelRefusal, asks, pixelCall}
 use Rattle.colours.specs.StateLaws.{write-pipe, low-pipe, high-pipe}
 use Rattle.colours.specs.Session.{Board, board, Event, Write, WriteLow, WriteHigh, Pixel, Lend, after, session, Passed, asked, came, passing, passed}
 
+-- ---- writes, and a table that is changed under way, move nothing that is on its way
+
+-- no pixel
+abbrev pub NotPixel : Event → Type 0
+NotPixel (Write address value) = Unit {0}
+NotPixel (WriteLow low) = Unit {0}
+NotPixel (WriteHigh address high) = Unit {0}
+NotPixel (Pixel i) = ⊥
+NotPixel (Lend t) = Unit {0}
+
+pub after-pipe : (e : Event) (b : Board) → NotPixel e → pipe (after e b .state) ≡ pipe (b .state)
+after-pipe (Write address value) b q = write-pipe (b .state) (b .table) address value
+after-pipe (WriteLow low) b q = low-pipe (b .state) (b .table) low
+after-pipe (WriteHigh address high) b q = high-pipe (b .state) (b .table) address high
+after-pipe (Pixel i) b q = absurd q
+after-pipe (Lend t) b q = refl
+
+abbrev pub NoPixel : List Event → Type 0
+NoPixel [] = Unit {0}
+NoPixel (e ∷ es) = NotPixel e × NoPixel es
+
+pub pipe-waits : (es : List Event) (b : Board) → NoPixel es → pipe (session es b .state) ≡ pipe (b .state)
+pipe-waits [] b q = refl
+pipe-waits (e ∷ es) b q = pipe-waits es (after e b) (q .1) ∙ after-pipe e b (q .0)
+
+-- ---- the delay
+
 -- what came out for accepted pixels, and then what is on its way, is what was on its way, and then what they asked for
 abbrev pub Delayed : List Passed → List Output → List Output → Type 0
 Delayed ps before behind = map came ps ++ behind ≡ before ++ map asked ps
 
--- one pixel more, in front
-pixel-first : (b : Board) (i : Inputs) (ps : List Passed) (behind : List Output)
-    → Delayed ps (pipe (after (Pixel i) b .state)) behind → Delayed (passing b i ps) (pipe (b .state)) behind
-unfolding pixelCall
-pixel-first b i ps behind = go (eqb (pixelRefusal (b .state) (length (b .table)) (i .address)) 0)
-  where
-    go : (t : Bool)
-        → Delayed ps (pipe (cond t (moved (b .state) (asks (b .table) i)) (b .state))) behind
-        → Delayed
-        (cond t (record { inputs = i; table = b .table; output = cond t (b .state .first) (Colour 0 0 0) } ∷ ps) ps)
-        (pipe (b .state)) behind
-    go true e = ap (λ (l : List Output). b .state .first ∷ l) e
-    go false e = e
+-- one event more, in front
+module _ (b : Board) (ps : List Passed) (behind : List Output) where
+  pixel-first : (i : Inputs) → Delayed ps (pipe (after (Pixel i) b .state)) behind → Delayed (passing (Pixel i) b ps) (pipe (b .state)) behind
+  unfolding pixelCall
+  pixel-first i = go (eqb (pixelRefusal (b .state) (length (b .table)) (i .address)) 0)
+    where
+      go : (t : Bool)
+          → Delayed ps (pipe (cond t (moved (b .state) (asks (b .table) i)) (b .state))) behind
+          → Delayed
+          (cond t (record { inputs = i; table = b .table; output = cond t (b .state .first) (Colour 0 0 0) } ∷ ps) ps)
+          (pipe (b .state)) behind
+      go true e = ap (λ (l : List Output). b .state .first ∷ l) e
+      go false e = e
+
+  other-first : (e : Event) → NotPixel e → Delayed ps (pipe (after e b .state)) behind → Delayed ps (pipe (b .state)) behind
+  other-first e q d = d ∙ ap (λ (l : List Output). l ++ map asked ps) (after-pipe e b q)
+
+  event-first : (e : Event) → Delayed ps (pipe (after e b .state)) behind → Delayed (passing e b ps) (pipe (b .state)) behind
+  event-first (Write address value) d = other-first (Write address value) tt d
+  event-first (WriteLow low) d = other-first (WriteLow low) tt d
+  event-first (WriteHigh address high) d = other-first (WriteHigh address high) tt d
+  event-first (Pixel i) d = pixel-first i d
+  event-first (Lend t) d = d
 
 -- in every session, of any length, with calls accepted and refused, from any state
 pub pipe-delays : (es : List Event) (b : Board) → Delayed (passed es b) (pipe (b .state)) (pipe (session es b .state))
 pipe-delays [] b = refl
-pipe-delays (Write address value ∷ es) b =
-    pipe-delays es (after (Write address value) b)
-    ∙ ap (λ (l : List Output). l ++ map asked (passed es (after (Write address value) b))) (write-pipe (b .state) (b .table) address value)
-pipe-delays (WriteLow low ∷ es) b =
-    pipe-delays es (after (WriteLow low) b)
-    ∙ ap (λ (l : List Output). l ++ map asked (passed es (after (WriteLow low) b))) (low-pipe (b .state) (b .table) low)
-pipe-delays (WriteHigh address high ∷ es) b =
-    pipe-delays es (after (WriteHigh address high) b)
-    ∙ ap (λ (l : List Output). l ++ map asked (passed es (after (WriteHigh address high) b))) (high-pipe (b .state) (b .table) address high)
-pipe-delays (Pixel i ∷ es) b =
-    pixel-first b i (passed es (after (Pixel i) b)) (pipe (session es (after (Pixel i) b) .state)) (pipe-delays es (after (Pixel i) b))
-pipe-delays (Lend t ∷ es) b = pipe-delays es (after (Lend t) b)
+pipe-delays (e ∷ es) b =
+    event-first b (passed es (after e b)) (pipe (session es (after e b) .state)) e (pipe-delays es (after e b))
 
 -- ---- by place. d stands past the end of a list, where no law looks
 
@@ -84,28 +111,10 @@ module _ (es : List Event) (b : Board) (d : Passed) where
 -- after `fresh` the first three outputs are at blank level
 pub first-blank : (es : List Event) (t : List ℕ) (d : Passed) (k : ℕ) → k < 3 → k < length (passed es (board fresh t))
     → came (getD (passed es (board fresh t)) k d) ≡ Blank
-first-blank es t d zero l h = came-at es (board fresh t) d zero h
-first-blank es t d (suc zero) l h = came-at es (board fresh t) d (suc zero) h
-first-blank es t d (suc (suc zero)) l h = came-at es (board fresh t) d (suc (suc zero)) h
-first-blank es t d (suc (suc (suc k))) l h = absurd (omega arith)
-
--- ---- writes, and a table that is changed under way, move nothing that is on its way
-
--- no pixel among them
-abbrev pub NoPixel : List Event → Type 0
-NoPixel [] = Unit {0}
-NoPixel (Write address value ∷ es) = NoPixel es
-NoPixel (WriteLow low ∷ es) = NoPixel es
-NoPixel (WriteHigh address high ∷ es) = NoPixel es
-NoPixel (Pixel i ∷ es) = ⊥
-NoPixel (Lend t ∷ es) = NoPixel es
-
-pub pipe-waits : (es : List Event) (b : Board) → NoPixel es → pipe (session es b .state) ≡ pipe (b .state)
-pipe-waits [] b n = refl
-pipe-waits (Write address value ∷ es) b n =
-    pipe-waits es (after (Write address value) b) n ∙ write-pipe (b .state) (b .table) address value
-pipe-waits (WriteLow low ∷ es) b n = pipe-waits es (after (WriteLow low) b) n ∙ low-pipe (b .state) (b .table) low
-pipe-waits (WriteHigh address high ∷ es) b n =
-    pipe-waits es (after (WriteHigh address high) b) n ∙ high-pipe (b .state) (b .table) address high
-pipe-waits (Pixel i ∷ es) b n = absurd n
-pipe-waits (Lend t ∷ es) b n = pipe-waits es (after (Lend t) b) n
+first-blank es t d k l h = first-three es (board fresh t) d k l h ∙ blank-at k
+  where
+    blank-at : (k : ℕ) → getD (pipe fresh) k Blank ≡ Blank
+    blank-at zero = refl
+    blank-at (suc zero) = refl
+    blank-at (suc (suc zero)) = refl
+    blank-at (suc (suc (suc k))) = refl

@@ -54,16 +54,16 @@ asked p = asks (p .table) (p .inputs)
 abbrev pub came : Passed → Output
 came p = p .output
 
--- a pixel before others, where it is accepted
-abbrev pub passing : Board → Inputs → List Passed → List Passed
-passing b i others =
+-- an event before the others: a pixel that is accepted is one more
+abbrev pub passing : Event → Board → List Passed → List Passed
+passing (Write address value) b others = others
+passing (WriteLow low) b others = others
+passing (WriteHigh address high) b others = others
+passing (Pixel i) b others =
     let r = pixelCall (b .state) (b .table) i in
     cond (eqb (r .number) 0) (record { inputs = i; table = b .table; output = r .output } ∷ others) others
+passing (Lend t) b others = others
 
 abbrev pub passed : List Event → Board → List Passed
 passed [] b = []
-passed (Write address value ∷ es) b = passed es (after (Write address value) b)
-passed (WriteLow low ∷ es) b = passed es (after (WriteLow low) b)
-passed (WriteHigh address high ∷ es) b = passed es (after (WriteHigh address high) b)
-passed (Pixel i ∷ es) b = passing b i (passed es (after (Pixel i) b))
-passed (Lend t ∷ es) b = passed es (after (Lend t) b)
+passed (e ∷ es) b = passing e b (passed es (after e b))

@@ -1,12 +1,11 @@
 -- The state's rule is kept by every call, and what each call leaves of the low part and of the pipe. Assumes nothing.
 use mathlib.Core.Path.{_≡_, refl}
-use mathlib.Core.Bool.{Bool, true, false, _&&_, cond}
+use mathlib.Core.Bool.{true, _&&_}
 use mathlib.Core.List.{List}
 use Prim.Native.Nat.{ℕ}
-use lib.Dec.{eqb}
 use lib.ListN.{length}
 use Rattle.numbers.specs.Between.{both}
-use Rattle.numbers.specs.Refuse.{leaves}
+use Rattle.numbers.specs.RefuseLaws.{leaves-holds}
 use Rattle.colours.specs.declared.Colours.{Colours}
 use Rattle.colours.specs.declared.Waiting.{Waiting}
 use Rattle.colours.specs.declared.Waiting.the-variants.{None, Low}
@@ -15,14 +14,6 @@ use Rattle.colours.specs.Table.{wordAt}
 use Rattle.colours.specs.OutputLaws.{shown-ok}
 use Rattle.colours.specs.State.{fresh, withWaiting, moved, pipe, stepsOk, ruled}
 use Rattle.colours.specs.Calls.{writeRefusal, lowRefusal, highRefusal, pixelRefusal, writeCall, writeLowCall, writeHighCall, asks, pixelCall}
-
--- what holds of both holds of what a call leaves
-pub leaves-holds : {A : Type 0} (P : A → Type 0) (n : ℕ) (before made : A) → P before → P made → P (leaves n before made)
-leaves-holds P n before made p q = go (eqb n 0)
-  where
-    go : (t : Bool) → P (cond t made before)
-    go true = q
-    go false = p
 
 -- ---- the rule
 

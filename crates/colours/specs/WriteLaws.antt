@@ -7,6 +7,7 @@ use Prim.Native.Nat.{ℕ, _%_, _≤_, _<_}
 use native.Mathlib.Omega.{arith}
 use lib.ListN.{length, getD, set, length-set}
 use lib.Seq.{getD-set-same, getD-set-other}
+use Rattle.numbers.specs.RefuseLaws.{leaves-holds}
 use Rattle.colours.specs.declared.Colours.{Colours}
 use Rattle.colours.specs.declared.Coloured.{Coloured}
 use Rattle.colours.specs.declared.Waiting.{Waiting}
@@ -15,7 +16,7 @@ use Rattle.colours.specs.Table.{wordAt, lowOf, highOf, joined}
 use Rattle.colours.specs.State.{withWaiting, waits, lowWaiting, ruled}
 use Rattle.colours.specs.Calls.{writeRefusal, highRefusal, lowRefusal, readRefusal, Outcome, writeCall, writeLowCall, writeHighCall, worded, byted, readCall, readLowCall, readHighCall}
 use Rattle.colours.specs.CallLaws.{Reached, Ready, high-22, write-makes, low-makes, high-makes, read-makes, read-low-makes, read-high-makes}
-use Rattle.colours.specs.StateLaws.{waiting-ruled, leaves-holds}
+use Rattle.colours.specs.StateLaws.{waiting-ruled}
 
 -- ---- a word and its two parts
 

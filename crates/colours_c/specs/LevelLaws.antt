@@ -6,19 +6,13 @@ use mathlib.Core.Bool.{Bool, true, false, _&&_, _||_}
 use native.Mathlib.Omega.{arith}
 use lib.Dec.{eqb, leb}
 use borrow.Author.Tests.{eqb-true, ne-eqb, leb-true, le-leb, lt-leb}
-use Rattle.numbers.specs.Between.{both}
+use Rattle.numbers.specs.Between.{both, either}
 use Rattle.colours.specs.declared.Output.{Output}
 use Rattle.colours.specs.declared.Output.the-variants.{Sync, Blank, Overlay, Colour}
 use Rattle.colours.specs.Output.{overlaid}
 use Rattle.colours.specs.State.{stepsOk}
 use Rattle.colours_c.specs.declared.Triple.{Triple}
 use Rattle.colours_c.specs.Levels.{numberOf, handedOutput, isBlanked, blackOrWhite, isOverlay, isColour, makes, takenOutput}
-
--- ---- what a test of two says
-
-pub either : (P : Type 0) (p q : Bool) → (p || q) ≡ true → (p ≡ true → P) → (q ≡ true → P) → P
-either P true q e f g = f refl
-either P false q e f g = g e
 
 -- ---- three levels, by what they are
 

@@ -1,6 +1,6 @@
 -- Calls from C one after the other are those of `colours`: what holds of sessions there holds in C. Assumes nothing.
 use Prim.Native.Nat.{ℕ}
-use mathlib.Core.Path.{_≡_, refl, ap, ap₂, _∙_}
+use mathlib.Core.Path.{_≡_, refl, ap, _∙_}
 use mathlib.Core.Bool.{Bool, true, false, cond}
 use mathlib.Core.List.{List, [], _∷_, _++_, map}
 use lib.Dec.{eqb}
@@ -8,7 +8,7 @@ use Rattle.colours.specs.declared.Colours.{Colours}
 use Rattle.colours.specs.declared.Output.{Output}
 use Rattle.colours.specs.State.{pipe, ruled}
 use Rattle.colours.specs.Calls.{writeCall, writeLowCall, writeHighCall, pixelCall, Outcome as OutcomeBelow}
-use Rattle.colours.specs.Session.{Board, Event, Write, WriteLow, WriteHigh, Pixel, Lend, after, session, Passed, asked, came, passed}
+use Rattle.colours.specs.Session.{Board, Event, Write, WriteLow, WriteHigh, Pixel, Lend, after, session, Passed, asked, came, passing, passed}
 use Rattle.colours.specs.SessionLaws.{after-ruled}
 use Rattle.colours.specs.Pipe.{pipe-delays}
 use Rattle.colours_c.specs.declared.Held.{Held}
@@ -74,17 +74,17 @@ abbrev pub heldSession : List HeldEvent → HeldBoard → HeldBoard
 heldSession [] b = b
 heldSession (e ∷ es) b = heldSession es (heldAfter e b)
 
--- the levels that accepted pixels answer
+-- the levels that accepted pixels answer: a call before the others
+abbrev pub heldPassing : HeldEvent → HeldBoard → List Triple → List Triple
+heldPassing (HeldWrite address value) b others = others
+heldPassing (HeldLow low) b others = others
+heldPassing (HeldHigh address high) b others = others
+heldPassing (HeldPixel p) b others = let r = heldPixel (b .state) (b .table) p in cond (eqb (r .number) 0) (r .levels ∷ others) others
+heldPassing (HeldLend t) b others = others
+
 abbrev pub heldCame : List HeldEvent → HeldBoard → List Triple
 heldCame [] b = []
-heldCame (HeldWrite address value ∷ es) b = heldCame es (heldAfter (HeldWrite address value) b)
-heldCame (HeldLow low ∷ es) b = heldCame es (heldAfter (HeldLow low) b)
-heldCame (HeldHigh address high ∷ es) b = heldCame es (heldAfter (HeldHigh address high) b)
-heldCame (HeldPixel p ∷ es) b =
-    let r = heldPixel (b .state) (b .table) p in
-    let others = heldCame es (heldAfter (HeldPixel p) b) in
-    cond (eqb (r .number) 0) (r .levels ∷ others) others
-heldCame (HeldLend t ∷ es) b = heldCame es (heldAfter (HeldLend t) b)
+heldCame (e ∷ es) b = heldPassing e b (heldCame es (heldAfter e b))
 
 -- the call below
 abbrev pub below : HeldEvent → Event
@@ -113,31 +113,32 @@ held-session (e ∷ es) b r =
 abbrev pub levelsCame : Passed → Triple
 levelsCame p = handedOutput (came p)
 
-one-more : (t : Bool) (p : Passed) (ps : List Passed)
-    → cond t (levelsCame p ∷ map levelsCame ps) (map levelsCame ps) ≡ map levelsCame (cond t (p ∷ ps) ps)
-one-more true p ps = refl
-one-more false p ps = refl
+held-passing : (e : HeldEvent) (b : Board) → ruled (b .state) ≡ true → (ps : List Passed)
+    → heldPassing e (handedBoard b) (map levelsCame ps) ≡ map levelsCame (passing (below e) b ps)
+held-passing (HeldWrite address value) b r ps = refl
+held-passing (HeldLow low) b r ps = refl
+held-passing (HeldHigh address high) b r ps = refl
+held-passing (HeldPixel p) b r ps =
+    let i = takenInputs p in
+    let out = pixelCall (b .state) (b .table) i in
+    ap (λ (x : Emitted). cond (eqb (x .number) 0) (x .levels ∷ map levelsCame ps) (map levelsCame ps)) (held-pixel (b .state) (b .table) r p)
+    ∙ go (eqb (out .number) 0) (record { inputs = i; table = b .table; output = out .output })
+  where
+    go : (t : Bool) (q : Passed)
+        → cond t (levelsCame q ∷ map levelsCame ps) (map levelsCame ps) ≡ map levelsCame (cond t (q ∷ ps) ps)
+    go true q = refl
+    go false q = refl
+held-passing (HeldLend t) b r ps = refl
 
 -- and accepted pixels answer the levels of what came out below
 pub held-came : (es : List HeldEvent) (b : Board) → ruled (b .state) ≡ true
     → heldCame es (handedBoard b) ≡ map levelsCame (passed (map below es) b)
 held-came [] b r = refl
-held-came (HeldWrite address value ∷ es) b r =
-    ap (heldCame es) (held-after (HeldWrite address value) b r)
-    ∙ held-came es (after (Write address value) b) (after-ruled (Write address value) b r)
-held-came (HeldLow low ∷ es) b r =
-    ap (heldCame es) (held-after (HeldLow low) b r) ∙ held-came es (after (WriteLow low) b) (after-ruled (WriteLow low) b r)
-held-came (HeldHigh address high ∷ es) b r =
-    ap (heldCame es) (held-after (HeldHigh address high) b r)
-    ∙ held-came es (after (WriteHigh address high) b) (after-ruled (WriteHigh address high) b r)
-held-came (HeldPixel p ∷ es) b r =
-    let i = takenInputs p in
-    ap₂ (λ (x : Emitted) (others : List Triple). cond (eqb (x .number) 0) (x .levels ∷ others) others)
-    (held-pixel (b .state) (b .table) r p)
-    (ap (heldCame es) (held-after (HeldPixel p) b r) ∙ held-came es (after (Pixel i) b) (after-ruled (Pixel i) b r))
-    ∙ one-more (eqb (pixelCall (b .state) (b .table) i .number) 0)
-    (record { inputs = i; table = b .table; output = pixelCall (b .state) (b .table) i .output }) (passed (map below es) (after (Pixel i) b))
-held-came (HeldLend t ∷ es) b r = held-came es (after (Lend t) b) r
+held-came (e ∷ es) b r =
+    let next = after (below e) b in
+    ap (heldPassing e (handedBoard b))
+    (ap (heldCame es) (held-after e b r) ∙ held-came es next (after-ruled (below e) b r))
+    ∙ held-passing e b r (passed (map below es) next)
 
 -- so in C too an accepted pixel answers what was asked for three before, after what was on its way
 pub held-delays : (es : List HeldEvent) (b : Board) → ruled (b .state) ≡ true

@@ -5,7 +5,7 @@ use mathlib.Core.Path.{_≡_, refl}
 use mathlib.Core.Bool.{true, _&&_}
 use lib.Dec.{eqb}
 use borrow.Author.Tests.{eqb-true}
-use Rattle.numbers.specs.Between.{both}
+use Rattle.numbers.specs.Between.{both, either}
 use Rattle.words.specs.Bit.{digit}
 use Rattle.colours.specs.declared.Colours.{Colours}
 use Rattle.colours.specs.declared.Waiting.{Waiting}
@@ -13,7 +13,7 @@ use Rattle.colours.specs.declared.Waiting.the-variants.{None, Low}
 use Rattle.colours.specs.State.{waits, lowWaiting, stepsOk, ruled}
 use Rattle.colours_c.specs.declared.Held.{Held}
 use Rattle.colours_c.specs.Levels.{makes}
-use Rattle.colours_c.specs.LevelLaws.{either, handed-taken-output, taken-steps, handed-makes, taken-handed-output}
+use Rattle.colours_c.specs.LevelLaws.{handed-taken-output, taken-steps, handed-makes, taken-handed-output}
 use Rattle.colours_c.specs.State.{partOk, lawful, takenWaiting, taken, handed}
 
 -- ---- the low part

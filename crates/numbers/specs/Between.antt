@@ -17,6 +17,11 @@ pub neither : (p q : Bool) → (p || q) ≡ false → (p ≡ false) × (q ≡ fa
 neither true q e = absurd (true≢false e)
 neither false q e = (refl, e)
 
+-- one of two tests holds: what follows from each
+pub either : (P : Type 0) (p q : Bool) → (p || q) ≡ true → (p ≡ true → P) → (q ≡ true → P) → P
+either P true q e f g = f refl
+either P false q e f g = g e
+
 -- two tests that say the same are equal
 pub same-truth : (p q : Bool) → (p ≡ true → q ≡ true) → (q ≡ true → p ≡ true) → p ≡ q
 same-truth true q f g = sym (f refl)

@@ -44,6 +44,14 @@ module _ {A : Type 0} (number : ℕ) (before made : A) where
   pub leaves-before : number ≢ 0 → leaves number before made ≡ before
   leaves-before n = simp (ne-eqb number 0 n)
 
+-- what holds of what was there, and of what is made, holds of what a call leaves
+pub leaves-holds : {A : Type 0} (P : A → Type 0) (number : ℕ) (before made : A) → P before → P made → P (leaves number before made)
+leaves-holds P number before made p q = go (eqb number 0)
+  where
+    go : (t : Bool) → P (cond t made before)
+    go true = q
+    go false = p
+
 -- ---- the two ways out of a call that refuses or acts: n is the number that the code has, k the definition's, and `out` puts the
 -- answer together
 
