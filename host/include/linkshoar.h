@@ -273,7 +273,8 @@ typedef struct {
                                               sync with red and blue at blank; all at blank; each at black or white; each at a step */
 } linkshoar_colours;
 
-/* What a pixel puts in; a yes-or-no byte that is not 0 is yes. */
+/* What a pixel puts in; a yes-or-no byte that is not 0 is yes. A byte takes the low eight bits of what is assigned to it: compare first, as in
+ * .blank = (status & 0x100) != 0. */
 typedef struct {
     uint32_t address; /* of its colour in the table, 0 to 63 */
     uint8_t horizontal_sync, vertical_sync, blank;
@@ -692,11 +693,12 @@ linkshoar_fetched linkshoar_controller_fetch(linkshoar_controller state);
  * blanked ones to bring the last of them out, are n + 3 clocks:
  *
  *   linkshoar_colours state = linkshoar_colours_fresh();
- *   linkshoar_inputs blanked = {.blank = 1};
+ *   linkshoar_inputs blanked = {0};
+ *   blanked.blank = 1;
  *   for (size_t k = 0; k < n + 3; k++) {
  *       linkshoar_emitted e = linkshoar_colours_pixel(state, table, LINKSHOAR_COLOURS_WORDS, k < n ? line[k] : blanked);
  *       if (e.number)
- *           stop(linkshoar_strerror(e.number));
+ *           break; // refused: linkshoar_strerror says why
  *       state = e.state;
  *       if (k >= 3)
  *           show(k - 3, e.levels);
@@ -724,7 +726,8 @@ linkshoar_coloured linkshoar_colours_write_low(linkshoar_colours state, uint8_t 
  * waits afterwards; where the call is refused, one that waited still does. Refused with 1, 3, 21, 22. */
 linkshoar_coloured linkshoar_colours_write_high(linkshoar_colours state, uint16_t *table, size_t words, uint32_t address, uint8_t high);
 
-/* The word at the address, 0 to 63: its thirteen bits; bits 0 to 7; bits 8 to 12 in bits 0 to 4. What is above is 0. Refused with 3, 21. */
+/* The word at the address, 0 to 63: its thirteen bits; bits 0 to 7; bits 8 to 12 in bits 0 to 4. What is above is 0. A low part that waits is
+ * not in the table yet: until its high part comes the word is the old one. Refused with 3, 21. */
 linkshoar_word linkshoar_colours_read(const uint16_t *table, size_t words, uint32_t address);
 linkshoar_byte linkshoar_colours_read_low(const uint16_t *table, size_t words, uint32_t address);
 linkshoar_byte linkshoar_colours_read_high(const uint16_t *table, size_t words, uint32_t address);
@@ -740,7 +743,7 @@ static inline const char *linkshoar_strerror(uint32_t number)
     case LINKSHOAR_DONE: return "done";
     case LINKSHOAR_STATE_EXCLUDED: return "a state, or a held field, that the rules exclude";
     case LINKSHOAR_MEMORY_LENGTH: return "memory length or rows fitted not 1 to 512 rows";
-    case LINKSHOAR_REGISTER_LENGTH: return "serial register not 256 words, palette table not 768 bytes, or the Am8159's not 64 words";
+    case LINKSHOAR_REGISTER_LENGTH: return "serial register not 256 words, palette table not 768 bytes, or the Am8159's table not 64 words";
     case LINKSHOAR_FIELD_UNREADABLE: return "unknown tag, wrong length, a field cut short, or a list too long";
     case LINKSHOAR_ROW_NOT_FITTED: return "row not fitted, or a start row over 511";
     case LINKSHOAR_COLUMN_OVER: return "column over 511";
@@ -758,8 +761,8 @@ static inline const char *linkshoar_strerror(uint32_t number)
     case LINKSHOAR_MARKS_LENGTH: return "marks not 64 bytes";
     case LINKSHOAR_PARTITION_OTHER: return "partition length not 16, 32, 64 or 128";
     case LINKSHOAR_MASK_LEFT_BEHIND: return "a mask load with no reset refresh after it in the list";
-    case LINKSHOAR_ADDRESS_OR_DATA_OVER: return "address over 63, or data over 8191";
-    case LINKSHOAR_NO_LOW_PART: return "a high part with no low part waiting";
+    case LINKSHOAR_ADDRESS_OR_DATA_OVER: return "of the Am8159's table: address over 63, or data over 8191";
+    case LINKSHOAR_NO_LOW_PART: return "the Am8159's high part of a word with no low part waiting";
     default: return "unknown number";
     }
 }

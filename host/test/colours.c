@@ -28,7 +28,7 @@ static int colours_same(linkshoar_colours a, linkshoar_colours b)
            levels_same(a.third, b.third);
 }
 
-/* ---- one call of the library and one of the second implementation: the table stands where else the serial register does */
+/* ---- one call of the library and one of the second implementation. The table lies where other tests have the serial register. */
 
 static linkshoar_colours same_coloured(const char *what, linkshoar_coloured a, linkshoar_coloured b, size_t words)
 {

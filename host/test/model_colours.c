@@ -223,7 +223,7 @@ static unsigned inverts(unsigned b, unsigned blink, unsigned bit_12)
     case 132: return blink; /* blink without its bit */
     case 133: return bit_12; /* the bit without blink */
     case 134: return blink & bit_12 & (b >> 2 == GREEN); /* green alone inverted */
-    case 135: return blink & bit_12 & (b > 0); /* bits 1 to 12 inverted */
+    case 135: return blink & bit_12 & (b > 0); /* bits 1 to 11 inverted */
     default: return blink & bit_12;
     }
 }

@@ -1,12 +1,13 @@
 -- The number that a call gives, and which calls are accepted; a call is refused and changes nothing, or is done. Assumes nothing.
 use mathlib.Core.Path.{_≡_, refl}
-use mathlib.Core.Bool.{Bool, true, false, _&&_}
+use mathlib.Core.Bool.{Bool, true, false, _&&_, and-false}
 use mathlib.Core.List.{List}
-use mathlib.Core.Logic.{_≢_}
-use Prim.Native.Nat.{ℕ, _≤_}
+use mathlib.Core.Logic.{_≢_, _⊎_, inl, inr}
+use Prim.Native.Nat.{ℕ, _≤_, _<_}
+use native.Mathlib.Omega.{arith}
 use lib.Dec.{eqb, leb}
 use lib.ListN.{length, set}
-use borrow.Author.Tests.{eqb-true, leb-true, ne-eqb, le-leb}
+use borrow.Author.Tests.{eqb-true, leb-true, ne-eqb, le-leb, lt-leb}
 use Rattle.numbers.specs.Between.{both}
 use Rattle.numbers.specs.Refuse.{refuse}
 use Rattle.numbers.specs.RefuseLaws.{refuse-zero}
@@ -16,38 +17,110 @@ use Rattle.colours.specs.declared.Output.the-variants.{Colour}
 use Rattle.colours.specs.declared.Inputs.{Inputs}
 use Rattle.colours.specs.Table.{wordAt, lowOf, highOf, joined}
 use Rattle.colours.specs.State.{withWaiting, moved, waits, lowWaiting, ruled}
-use Rattle.colours.specs.Calls.{tableRefusal, stateRefusal, writeRefusal, lowRefusal, highRefusal, readRefusal, pixelRefusal, coloured, outcome, written, writeCall, writeLowCall, writeHighCall, worded, byted, readCall, readLowCall, readHighCall, emitted, asks, pixelCall}
+use Rattle.colours.specs.Calls.{tableRefusal, writeRefusal, lowRefusal, highRefusal, readRefusal, pixelRefusal, coloured, outcome, written, writeCall, writeLowCall, writeHighCall, worded, byted, readCall, readLowCall, readHighCall, emitted, asksAt, pixelCall}
 
--- ---- the order of the numbers: 1, 3, 21, 22
+-- ---- 3, 21 and 22, in this order
 
 module _ (words : ℕ) (within waits : Bool) where
-  pub table-3 : words ≢ 64 → tableRefusal words within waits ≡ 3
+  table-3 : words ≢ 64 → tableRefusal words within waits ≡ 3
   table-3 w = rw (ne-eqb words 64 w)
 
-  pub table-21 : words ≡ 64 → within ≡ false → tableRefusal words within waits ≡ 21
+  table-21 : words ≡ 64 → within ≡ false → tableRefusal words within waits ≡ 21
   table-21 w a = rw (w, a)
 
-  pub table-22 : words ≡ 64 → within ≡ true → waits ≡ false → tableRefusal words within waits ≡ 22
-  table-22 w a l = rw (w, a, l)
-
-  pub table-0 : words ≡ 64 → within ≡ true → waits ≡ true → tableRefusal words within waits ≡ 0
+  table-0 : words ≡ 64 → within ≡ true → waits ≡ true → tableRefusal words within waits ≡ 0
   table-0 w a l = rw (w, a, l)
 
-  pub table-zero : tableRefusal words within waits ≡ 0 → (words ≡ 64) × (within ≡ true) × (waits ≡ true)
+  table-zero : tableRefusal words within waits ≡ 0 → (words ≡ 64) × (within ≡ true) × (waits ≡ true)
   table-zero e =
       let f = refuse-zero (eqb words 64) 2 (refuse within 21 (refuse waits 22 0)) e in
       let g = refuse-zero within 20 (refuse waits 22 0) (f .1) in
       (eqb-true words 64 (f .0), g .0, refuse-zero waits 21 0 (g .1) .0)
 
-module _ (s : Colours) (later : ℕ) where
-  pub state-1 : ruled s ≡ false → stateRefusal s later ≡ 1
-  state-1 r = rw r
+  -- 1 is the state's alone
+  table-not-1 : tableRefusal words within waits ≢ 1
+  table-not-1 = go (eqb words 64) within waits
+    where
+      go : (b p w : Bool) → refuse b 3 (refuse p 21 (refuse w 22 0)) ≢ 1
+      go true true true e = absurd (omega arith)
+      go true true false e = absurd (omega arith)
+      go true false w e = absurd (omega arith)
+      go false p w e = absurd (omega arith)
 
-  pub state-later : ruled s ≡ true → stateRefusal s later ≡ later
-  state-later r = rw r
+-- ---- the number of each call: 1, 3, 21, 22, in this order
 
-  pub state-zero : stateRefusal s later ≡ 0 → (ruled s ≡ true) × (later ≡ 0)
-  state-zero e = refuse-zero (ruled s) 0 later e
+module _ (s : Colours) (words address value : ℕ) where
+  pub write-1 : ruled s ≡ false → writeRefusal s words address value ≡ 1
+  unfolding writeRefusal
+  write-1 r = rw r
+
+  module _ (r : ruled s ≡ true) where
+    pub write-3 : words ≢ 64 → writeRefusal s words address value ≡ 3
+    unfolding writeRefusal
+    write-3 w = rw r (table-3 words (leb address 63 && leb value 8191) true w)
+
+    pub write-21 : words ≡ 64 → (63 < address) ⊎ (8191 < value) → writeRefusal s words address value ≡ 21
+    unfolding writeRefusal
+    write-21 w (inl h) = rw r (table-21 words (leb address 63 && leb value 8191) true w (rw (lt-leb address 63 h)))
+    write-21 w (inr h) =
+        rw r (table-21 words (leb address 63 && leb value 8191) true w (rw (lt-leb value 8191 h) (and-false (leb address 63))))
+
+    pub write-not-1 : writeRefusal s words address value ≢ 1
+    unfolding writeRefusal
+    write-not-1 = rw r (table-not-1 words (leb address 63 && leb value 8191) true)
+
+module _ (s : Colours) where
+  pub low-1 : ruled s ≡ false → lowRefusal s ≡ 1
+  unfolding lowRefusal
+  low-1 r = rw r
+
+  pub low-accepted : ruled s ≡ true → lowRefusal s ≡ 0
+  unfolding lowRefusal
+  low-accepted r = rw r
+
+module _ (s : Colours) (words address : ℕ) where
+  pub high-1 : ruled s ≡ false → highRefusal s words address ≡ 1
+  unfolding highRefusal
+  high-1 r = rw r
+
+  pub pixel-1 : ruled s ≡ false → pixelRefusal s words address ≡ 1
+  unfolding pixelRefusal
+  pixel-1 r = rw r
+
+  module _ (r : ruled s ≡ true) where
+    pub high-3 : words ≢ 64 → highRefusal s words address ≡ 3
+    unfolding highRefusal
+    high-3 w = rw r (table-3 words (leb address 63) (waits (s .waiting)) w)
+
+    -- whether a low part waits or not
+    pub high-21 : words ≡ 64 → 63 < address → highRefusal s words address ≡ 21
+    unfolding highRefusal
+    high-21 w h = rw r (table-21 words (leb address 63) (waits (s .waiting)) w (lt-leb address 63 h))
+
+    pub high-not-1 : highRefusal s words address ≢ 1
+    unfolding highRefusal
+    high-not-1 = rw r (table-not-1 words (leb address 63) (waits (s .waiting)))
+
+    pub pixel-3 : words ≢ 64 → pixelRefusal s words address ≡ 3
+    unfolding pixelRefusal
+    pixel-3 w = rw r (table-3 words (leb address 63) true w)
+
+    pub pixel-21 : words ≡ 64 → 63 < address → pixelRefusal s words address ≡ 21
+    unfolding pixelRefusal
+    pixel-21 w h = rw r (table-21 words (leb address 63) true w (lt-leb address 63 h))
+
+    pub pixel-not-1 : pixelRefusal s words address ≢ 1
+    unfolding pixelRefusal
+    pixel-not-1 = rw r (table-not-1 words (leb address 63) true)
+
+module _ (words address : ℕ) where
+  pub read-3 : words ≢ 64 → readRefusal words address ≡ 3
+  unfolding readRefusal
+  read-3 w = table-3 words (leb address 63) true w
+
+  pub read-21 : words ≡ 64 → 63 < address → readRefusal words address ≡ 21
+  unfolding readRefusal
+  read-21 w h = table-21 words (leb address 63) true w (lt-leb address 63 h)
 
 -- ---- which calls are accepted: these, and every one of them
 
@@ -74,7 +147,7 @@ module _ (s : Colours) (words address : ℕ) where
   pub write-zero : (value : ℕ) → writeRefusal s words address value ≡ 0 → Ready s words address × (value ≤ 8191)
   unfolding writeRefusal
   write-zero value e =
-      let f = state-zero s (tableRefusal words (leb address 63 && leb value 8191) true) e in
+      let f = refuse-zero (ruled s) 0 (tableRefusal words (leb address 63 && leb value 8191) true) e in
       let g = table-zero words (leb address 63 && leb value 8191) true (f .1) in
       let h = both (leb address 63) (leb value 8191) (g .1) in (
         record { rule = f .0; reached = record { table = g .0; within = leb-true address 63 (h .0) } },
@@ -88,7 +161,7 @@ module _ (s : Colours) (words address : ℕ) where
   pub high-zero : highRefusal s words address ≡ 0 → Ready s words address × (waits (s .waiting) ≡ true)
   unfolding highRefusal
   high-zero e =
-      let f = state-zero s (tableRefusal words (leb address 63) (waits (s .waiting))) e in
+      let f = refuse-zero (ruled s) 0 (tableRefusal words (leb address 63) (waits (s .waiting))) e in
       let g = table-zero words (leb address 63) (waits (s .waiting)) (f .1) in (
         record { rule = f .0; reached = record { table = g .0; within = leb-true address 63 (g .1) } },
         g .2,
@@ -106,7 +179,7 @@ module _ (s : Colours) (words address : ℕ) where
   pub pixel-zero : pixelRefusal s words address ≡ 0 → Ready s words address
   unfolding pixelRefusal
   pixel-zero e =
-      let f = state-zero s (tableRefusal words (leb address 63) true) e in
+      let f = refuse-zero (ruled s) 0 (tableRefusal words (leb address 63) true) e in
       let g = table-zero words (leb address 63) true (f .1) in
       record { rule = f .0; reached = record { table = g .0; within = leb-true address 63 (g .1) } }
 
@@ -114,15 +187,7 @@ module _ (s : Colours) (words address : ℕ) where
   unfolding pixelRefusal
   pixel-accepted r = rw (r .rule, r .reached .table, le-leb address 63 (r .reached .within))
 
-pub low-zero : (s : Colours) → lowRefusal s ≡ 0 → ruled s ≡ true
-unfolding lowRefusal
-low-zero s e = state-zero s 0 e .0
-
-pub low-accepted : (s : Colours) → ruled s ≡ true → lowRefusal s ≡ 0
-unfolding lowRefusal
-low-accepted s r = state-later s 0 r
-
--- ---- the two ways out: n is the number that the code has, k the definition's
+-- ---- the two ways out, as the code has them: n is its number, k the definition's
 
 module _ (s : Colours) (t : List ℕ) (n k : ℕ) (s′ : Colours) (t′ : List ℕ) (e : n ≡ k) where
   pub written-refused : n ≢ 0 → outcome (coloured n s) t ≡ written k s t s′ t′
@@ -132,15 +197,19 @@ module _ (s : Colours) (t : List ℕ) (n k : ℕ) (s′ : Colours) (t′ : List 
   written-done z f g = rw (← e, z, f, g)
 
 module _ (s : Colours) (t : List ℕ) (i : Inputs) (n : ℕ) (e : n ≡ pixelRefusal s (length t) (i .address)) where
-  pub pixel-refused : n ≢ 0 → emitted n s (Colour 0 0 0) ≡ pixelCall s t i
+  pub emitted-refused : n ≢ 0 → emitted n s (Colour 0 0 0) ≡ pixelCall s t i
   unfolding pixelCall
-  pixel-refused h = rw (← e, ne-eqb n 0 h)
+  emitted-refused h = rw (← e, ne-eqb n 0 h)
 
-  pub pixel-done : {u : Colours} → n ≡ 0 → u ≡ moved s (asks t i) → emitted 0 u (s .first) ≡ pixelCall s t i
+  pub emitted-done : {u : Colours} → n ≡ 0 → u ≡ moved s (asksAt t i) → emitted 0 u (s .first) ≡ pixelCall s t i
   unfolding pixelCall
-  pixel-done z f = rw (← e, z, f)
+  emitted-done z f = rw (← e, z, f)
 
 -- ---- a refusal changes nothing, and answers zeros
+
+pub low-refused : (s : Colours) (low : ℕ) → writeLowCall s low .number ≢ 0 → writeLowCall s low ≡ coloured (writeLowCall s low .number) s
+unfolding writeLowCall
+low-refused s low h = rw (ne-eqb (lowRefusal s) 0 h)
 
 module _ (s : Colours) (t : List ℕ) where
   pub write-refused : (address value : ℕ) → writeCall s t address value .answer .number ≢ 0
@@ -148,20 +217,33 @@ module _ (s : Colours) (t : List ℕ) where
   unfolding writeCall
   write-refused address value h = rw (ne-eqb (writeRefusal s (length t) address value) 0 h)
 
-  pub low-refused : (low : ℕ) → writeLowCall s low .number ≢ 0 → writeLowCall s low ≡ coloured (writeLowCall s low .number) s
-  unfolding writeLowCall
-  low-refused low h = rw (ne-eqb (lowRefusal s) 0 h)
-
   pub high-refused : (address high : ℕ) → writeHighCall s t address high .answer .number ≢ 0
       → writeHighCall s t address high ≡ outcome (coloured (writeHighCall s t address high .answer .number) s) t
   unfolding writeHighCall
   high-refused address high h = rw (ne-eqb (highRefusal s (length t) address) 0 h)
 
-  pub pixel-keeps : (i : Inputs) → pixelCall s t i .number ≢ 0 → pixelCall s t i ≡ emitted (pixelCall s t i .number) s (Colour 0 0 0)
+  pub pixel-refused : (i : Inputs) → pixelCall s t i .number ≢ 0 → pixelCall s t i ≡ emitted (pixelCall s t i .number) s (Colour 0 0 0)
   unfolding pixelCall
-  pixel-keeps i h = rw (ne-eqb (pixelRefusal s (length t) (i .address)) 0 h)
+  pixel-refused i h = rw (ne-eqb (pixelRefusal s (length t) (i .address)) 0 h)
+
+module _ (t : List ℕ) (address : ℕ) where
+  pub read-refused : readCall t address .number ≢ 0 → readCall t address ≡ worded (readCall t address .number) 0
+  unfolding readCall
+  read-refused h = rw (ne-eqb (readRefusal (length t) address) 0 h)
+
+  pub read-low-refused : readLowCall t address .number ≢ 0 → readLowCall t address ≡ byted (readLowCall t address .number) 0
+  unfolding readLowCall
+  read-low-refused h = rw (ne-eqb (readRefusal (length t) address) 0 h)
+
+  pub read-high-refused : readHighCall t address .number ≢ 0 → readHighCall t address ≡ byted (readHighCall t address .number) 0
+  unfolding readHighCall
+  read-high-refused h = rw (ne-eqb (readRefusal (length t) address) 0 h)
 
 -- ---- what is accepted is done
+
+pub low-makes : (s : Colours) (low : ℕ) → ruled s ≡ true → writeLowCall s low ≡ coloured 0 (withWaiting s (Low low))
+unfolding writeLowCall
+low-makes s low r = rw (low-accepted s r)
 
 module _ (s : Colours) (t : List ℕ) where
   pub write-makes : (address value : ℕ) → Ready s (length t) address → value ≤ 8191
@@ -169,17 +251,13 @@ module _ (s : Colours) (t : List ℕ) where
   unfolding writeCall
   write-makes address value r v = rw (write-accepted s (length t) address value r v)
 
-  pub low-makes : (low : ℕ) → ruled s ≡ true → writeLowCall s low ≡ coloured 0 (withWaiting s (Low low))
-  unfolding writeLowCall
-  low-makes low r = rw (low-accepted s r)
-
   pub high-makes : (address high : ℕ) → Ready s (length t) address → waits (s .waiting) ≡ true
       → writeHighCall s t address high
       ≡ outcome (coloured 0 (withWaiting s None)) (set t address (joined (lowWaiting (s .waiting)) high))
   unfolding writeHighCall
   high-makes address high r w = rw (high-accepted s (length t) address r w)
 
-  pub pixel-makes : (i : Inputs) → Ready s (length t) (i .address) → pixelCall s t i ≡ emitted 0 (moved s (asks t i)) (s .first)
+  pub pixel-makes : (i : Inputs) → Ready s (length t) (i .address) → pixelCall s t i ≡ emitted 0 (moved s (asksAt t i)) (s .first)
   unfolding pixelCall
   pixel-makes i r = rw (pixel-accepted s (length t) (i .address) r)
 

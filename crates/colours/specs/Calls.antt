@@ -16,7 +16,7 @@ use Rattle.colours.specs.declared.Emitted.{Emitted}
 use Rattle.colours.specs.declared.Word.{Word}
 use Rattle.colours.specs.declared.Byte.{Byte}
 use Rattle.colours.specs.Table.{wordAt, lowOf, highOf, joined}
-use Rattle.colours.specs.Output.{shown}
+use Rattle.colours.specs.Output.{asks}
 use Rattle.colours.specs.State.{withWaiting, moved, waits, lowWaiting, ruled}
 
 -- ---- what refuses a call
@@ -98,11 +98,11 @@ abbrev pub emitted : ℕ → Colours → Output → Emitted
 emitted n s out = record { state = s; output = out; number = n }
 
 -- what the inputs ask for, with the table as they enter
-abbrev pub asks : List ℕ → Inputs → Output
-asks t i = shown i (wordAt t (i .address))
+abbrev pub asksAt : List ℕ → Inputs → Output
+asksAt t i = asks i (wordAt t (i .address))
 
 -- the first on its way comes out, and what is asked for enters the pipe
 unfoldable pub pixelCall : Colours → List ℕ → Inputs → Emitted
 pixelCall s t i =
     let n = pixelRefusal s (length t) (i .address) in
-    emitted n (leaves n s (moved s (asks t i))) (leaves n (Colour 0 0 0) (s .first))
+    emitted n (leaves n s (moved s (asksAt t i))) (leaves n (Colour 0 0 0) (s .first))

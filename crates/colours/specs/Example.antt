@@ -11,7 +11,7 @@ use Rattle.colours.specs.declared.Waiting.the-variants.{None, Low}
 use Rattle.colours.specs.declared.Output.{Output}
 use Rattle.colours.specs.declared.Output.the-variants.{Sync, Blank, Overlay, Colour}
 use Rattle.colours.specs.declared.Inputs.{Inputs}
-use Rattle.colours.specs.Output.{shown}
+use Rattle.colours.specs.Output.{asks}
 use Rattle.colours.specs.State.{fresh, ruled}
 use Rattle.colours.specs.Calls.{writeRefusal, lowRefusal, highRefusal, pixelRefusal, writeCall, writeLowCall, writeHighCall, pixelCall}
 use Rattle.colours.specs.Session.{Board, board, Write, WriteLow, WriteHigh, Pixel, after}
@@ -76,7 +76,7 @@ table =
     []
 
 pub session-example : Follows (board fresh (replicate 64 0)) table
-unfolding bit shown ruled writeRefusal lowRefusal highRefusal pixelRefusal writeCall writeLowCall writeHighCall pixelCall
+unfolding bit asks ruled writeRefusal lowRefusal highRefusal pixelRefusal writeCall writeLowCall writeHighCall pixelCall
 session-example = (
   refl,
   refl,

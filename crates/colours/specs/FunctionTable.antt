@@ -1,5 +1,6 @@
--- Source document 003's Table 2, the function table, row by row and for each gun: H high, L low, X either. Overlay is S1 high and S0 low,
--- colour both high; the sheet's rows for colour data 15 and 0, with the steps between, are here one row for all data. Assumes nothing.
+-- Source document 003's Table 2, the function table, row by row and for each gun: H high, L low, X either. Of the sheet's S1 and S0 overlay
+-- is S0 low; S1 is high for every pixel, since an access is no clock. The sheet's rows for colour data 15 and 0, with the steps between,
+-- are here one row for all data. Assumes nothing.
 use mathlib.Core.Path.{_≡_}
 use mathlib.Core.Bool.{Bool, true, false}
 use mathlib.Core.List.{List, [], _∷_}
@@ -7,11 +8,10 @@ use mathlib.Core.Logic.{_⊎_}
 use Prim.Native.Nat.{ℕ, _-_, _/_, _%_}
 use Rattle.words.specs.Bit.{bit}
 use Rattle.colours.specs.declared.Inputs.{Inputs}
-use Rattle.colours.specs.declared.Output.the-variants.{Sync, Blank, Overlay}
 use Rattle.colours.specs.declared.Level.{Level}
 use Rattle.colours.specs.declared.Level.the-variants as level
 use Rattle.colours.specs.declared.Levels.{Levels}
-use Rattle.colours.specs.Output.{shown, levelsOf}
+use Rattle.colours.specs.Output.{asks, levelsOf}
 
 pub data Pin : Type 0 where
   H : Pin
@@ -108,7 +108,7 @@ pub record Fits (r : Row) (g : Gun) (i : Inputs) (word : ℕ) : Type 0 where
 
 -- every gun of every pixel that fits the row has the row's level
 abbrev pub Holds : Row → Type 0
-Holds r = (g : Gun) (i : Inputs) (word : ℕ) → Fits r g i word → levelOf g (levelsOf (shown i word)) ≡ r .out g (dataOf g word)
+Holds r = (g : Gun) (i : Inputs) (word : ℕ) → Fits r g i word → levelOf g (levelsOf (asks i word)) ≡ r .out g (dataOf g word)
 
 abbrev pub AllHold : List Row → Type 0
 AllHold [] = Unit {0}

@@ -1,6 +1,6 @@
 -- Every row of the function table holds, and every pixel fits one. Assumes nothing.
 use mathlib.Core.Path.{_≡_, refl, ap, _∙_}
-use mathlib.Core.Bool.{Bool, true, false, not, _&&_, _||_}
+use mathlib.Core.Bool.{Bool, true, false, not, _&&_, _||_, and-false}
 use mathlib.Core.Logic.{inl, inr}
 use Prim.Native.Nat.{ℕ, _-_, _%_}
 use native.Mathlib.Omega.{arith}
@@ -10,30 +10,30 @@ use Rattle.colours.specs.declared.Output.{Output}
 use Rattle.colours.specs.declared.Output.the-variants.{Sync, Blank, Overlay}
 use Rattle.colours.specs.declared.Level.{Level}
 use Rattle.colours.specs.declared.Level.the-variants as level
-use Rattle.colours.specs.Output.{blinked, colourOf, shown, overlaid, levelsOf}
-use Rattle.colours.specs.OutputLaws.{shown-sync, shown-blank, shown-overlay, shown-colour}
+use Rattle.colours.specs.Output.{blinked, colourOf, asks, overlaid, levelsOf}
+use Rattle.colours.specs.OutputLaws.{asks-sync, asks-blank, asks-overlay, asks-colour}
 use Rattle.colours.specs.FunctionTable.{Gun, Red, Green, Blue, onOf, dataOf, levelOf, compositeSync, table, AllHold, FitsSome}
 
--- ---- what is shown, by the pins
+-- ---- what is asked for, by the pins
 
 module _ (i : Inputs) (word : ℕ) where
-  one-sync : (h v : Bool) → i .horizontal ≡ h → i .vertical ≡ v → ((h || v) && not (h && v)) ≡ true → shown i word ≡ Sync
-  one-sync h v p q e = shown-sync i word (rw (p, q) e)
+  one-sync : (h v : Bool) → i .horizontal ≡ h → i .vertical ≡ v → ((h || v) && not (h && v)) ≡ true → asks i word ≡ Sync
+  one-sync h v p q e = asks-sync i word (rw (p, q) e)
 
-  both-syncs : i .horizontal ≡ true → i .vertical ≡ true → shown i word ≡ Blank
-  both-syncs p q = shown-blank i word (rw (p, q)) (rw (p, q))
+  both-syncs : i .horizontal ≡ true → i .vertical ≡ true → asks i word ≡ Blank
+  both-syncs p q = asks-blank i word (rw (p, q)) (rw (p, q))
 
   module _ (p : i .horizontal ≡ false) (q : i .vertical ≡ false) where
-    blank-shown : i .blank ≡ true → shown i word ≡ Blank
-    blank-shown k = shown-blank i word (rw (p, q)) (rw p k)
+    blank-asked : i .blank ≡ true → asks i word ≡ Blank
+    blank-asked k = asks-blank i word (rw (p, q)) (rw p k)
 
-    overlay-shown : i .blank ≡ false → i .overlay ≡ true → shown i word ≡ Overlay (i .red) (i .green) (i .blue)
-    overlay-shown k o = shown-overlay i word (rw (p, q)) (rw p k) o
+    overlay-asked : i .blank ≡ false → i .overlay ≡ true → asks i word ≡ Overlay (i .red) (i .green) (i .blue)
+    overlay-asked k o = asks-overlay i word (rw (p, q)) (rw p k) o
 
-    colour-shown : i .blank ≡ false → i .overlay ≡ false → shown i word ≡ colourOf (blinked (i .blink) word)
-    colour-shown k o = shown-colour i word (rw (p, q)) (rw p k) o
+    colour-asked : i .blank ≡ false → i .overlay ≡ false → asks i word ≡ colourOf (blinked (i .blink) word)
+    colour-asked k o = asks-colour i word (rw (p, q)) (rw p k) o
 
--- ---- the level of a gun, by what is shown
+-- ---- the level of a gun, by what is asked for
 
 level-overlay : (g : Gun) (i : Inputs) (p : Bool) → onOf g i ≡ p → (l : Level) → overlaid p ≡ l
     → levelOf g (levelsOf (Overlay (i .red) (i .green) (i .blue))) ≡ l
@@ -64,35 +64,31 @@ level-sync Blue n = refl
 -- ---- each row holds
 
 module _ (g : Gun) (i : Inputs) (word : ℕ) where
-  of : {o : Output} {l : Level} → shown i word ≡ o → levelOf g (levelsOf o) ≡ l → levelOf g (levelsOf (shown i word)) ≡ l
-  of e f = ap (λ (o : Output). levelOf g (levelsOf o)) e ∙ f
+  level-by : {o : Output} {l : Level} → asks i word ≡ o → levelOf g (levelsOf o) ≡ l → levelOf g (levelsOf (asks i word)) ≡ l
+  level-by e f = ap (λ (o : Output). levelOf g (levelsOf o)) e ∙ f
 
   steps : (i .blink && bit word 12) ≡ false → levelOf g (levelsOf (colourOf (blinked (i .blink) word))) ≡ level.Step (dataOf g word)
   steps e = rw e (level-step g word)
 
-no-bit : (p : Bool) {q : Bool} → q ≡ false → (p && q) ≡ false
-no-bit true e = e
-no-bit false e = refl
-
 pub function-table : AllHold table
 function-table = (
-  λ g i w f. of g i w (overlay-shown i w (f .horizontal) (f .vertical) (f .blank) (f .overlay)) (level-overlay g i true (f .on) level.White refl),
+  λ g i w f. level-by g i w (overlay-asked i w (f .horizontal) (f .vertical) (f .blank) (f .overlay)) (level-overlay g i true (f .on) level.White refl),
   (
-    λ g i w f. of g i w (colour-shown i w (f .horizontal) (f .vertical) (f .blank) (f .overlay)) (steps g i w (rw (f .blink))),
+    λ g i w f. level-by g i w (colour-asked i w (f .horizontal) (f .vertical) (f .blank) (f .overlay)) (steps g i w (rw (f .blink))),
     (
-      λ g i w f. of g i w (colour-shown i w (f .horizontal) (f .vertical) (f .blank) (f .overlay)) (steps g i w (no-bit (i .blink) (f .twelve))),
+      λ g i w f. level-by g i w (colour-asked i w (f .horizontal) (f .vertical) (f .blank) (f .overlay)) (steps g i w (rw (f .twelve) (and-false (i .blink)))),
       (
-        λ g i w f. of g i w (colour-shown i w (f .horizontal) (f .vertical) (f .blank) (f .overlay)) (rw (f .blink, f .twelve) (level-inverse g w)),
+        λ g i w f. level-by g i w (colour-asked i w (f .horizontal) (f .vertical) (f .blank) (f .overlay)) (rw (f .blink, f .twelve) (level-inverse g w)),
         (
-          λ g i w f. of g i w (overlay-shown i w (f .horizontal) (f .vertical) (f .blank) (f .overlay)) (level-overlay g i false (f .on) level.Black refl),
+          λ g i w f. level-by g i w (overlay-asked i w (f .horizontal) (f .vertical) (f .blank) (f .overlay)) (level-overlay g i false (f .on) level.Black refl),
           (
-            λ g i w f. of g i w (blank-shown i w (f .horizontal) (f .vertical) (f .blank)) (level-blank g),
+            λ g i w f. level-by g i w (blank-asked i w (f .horizontal) (f .vertical) (f .blank)) (level-blank g),
             (
-              λ g i w f. of g i w (both-syncs i w (f .horizontal) (f .vertical)) (level-blank g),
+              λ g i w f. level-by g i w (both-syncs i w (f .horizontal) (f .vertical)) (level-blank g),
               (
-                λ g i w f. of g i w (one-sync i w true false (f .horizontal) (f .vertical) refl) (level-sync g (dataOf g w)),
+                λ g i w f. level-by g i w (one-sync i w true false (f .horizontal) (f .vertical) refl) (level-sync g (dataOf g w)),
                 (
-                  λ g i w f. of g i w (one-sync i w false true (f .horizontal) (f .vertical) refl) (level-sync g (dataOf g w)),
+                  λ g i w f. level-by g i w (one-sync i w false true (f .horizontal) (f .vertical) refl) (level-sync g (dataOf g w)),
                   tt,
                 ),
               ),

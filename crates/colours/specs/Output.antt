@@ -26,8 +26,8 @@ abbrev pub oneSync : Inputs → Bool
 oneSync i = (i .horizontal || i .vertical) && not (bothSyncs i)
 
 -- one sync of the two; both, or blank; overlay; colour
-unfoldable pub shown : Inputs → ℕ → Output
-shown i word =
+unfoldable pub asks : Inputs → ℕ → Output
+asks i word =
     cond (oneSync i) Sync
     (cond (bothSyncs i || i .blank) Blank
     (cond (i .overlay) (Overlay (i .red) (i .green) (i .blue))

@@ -9,29 +9,29 @@ use Rattle.words.specs.Bit.{bit}
 use Rattle.words.specs.BitLaws.{bit-mod, bit-not}
 use Rattle.colours.specs.declared.Inputs.{Inputs}
 use Rattle.colours.specs.declared.Output.the-variants.{Sync, Blank, Overlay}
-use Rattle.colours.specs.Output.{blinked, colourOf, bothSyncs, oneSync, shown}
+use Rattle.colours.specs.Output.{blinked, colourOf, bothSyncs, oneSync, asks}
 use Rattle.colours.specs.State.{stepsOk}
 
 -- ---- the four cases, in their order
 
 module _ (i : Inputs) (word : ℕ) where
-  pub shown-sync : oneSync i ≡ true → shown i word ≡ Sync
-  unfolding shown
-  shown-sync s = rw s
+  pub asks-sync : oneSync i ≡ true → asks i word ≡ Sync
+  unfolding asks
+  asks-sync s = rw s
 
   module _ (s : oneSync i ≡ false) where
-    pub shown-blank : (bothSyncs i || i .blank) ≡ true → shown i word ≡ Blank
-    unfolding shown
-    shown-blank b = rw (s, b)
+    pub asks-blank : (bothSyncs i || i .blank) ≡ true → asks i word ≡ Blank
+    unfolding asks
+    asks-blank b = rw (s, b)
 
     module _ (b : (bothSyncs i || i .blank) ≡ false) where
-      pub shown-overlay : i .overlay ≡ true → shown i word ≡ Overlay (i .red) (i .green) (i .blue)
-      unfolding shown
-      shown-overlay o = rw (s, b, o)
+      pub asks-overlay : i .overlay ≡ true → asks i word ≡ Overlay (i .red) (i .green) (i .blue)
+      unfolding asks
+      asks-overlay o = rw (s, b, o)
 
-      pub shown-colour : i .overlay ≡ false → shown i word ≡ colourOf (blinked (i .blink) word)
-      unfolding shown
-      shown-colour o = rw (s, b, o)
+      pub asks-colour : i .overlay ≡ false → asks i word ≡ colourOf (blinked (i .blink) word)
+      unfolding asks
+      asks-colour o = rw (s, b, o)
 
 -- ---- blink
 
@@ -70,10 +70,10 @@ withBlink i blink =
 abbrev pub showsColour : Inputs → Bool
 showsColour i = not (oneSync i || bothSyncs i || i .blank || i .overlay)
 
--- blink touches nothing else: where no colour is shown, or its blink bit is not set, it makes no difference
+-- blink touches nothing else: where no colour is asked for, or its blink bit is not set, it makes no difference
 pub blink-only : (i : Inputs) (blink : Bool) (word : ℕ) → (showsColour i && bit word 12) ≡ false
-    → shown (withBlink i blink) word ≡ shown i word
-unfolding shown
+    → asks (withBlink i blink) word ≡ asks i word
+unfolding asks
 blink-only i blink word e = go (oneSync i) (bothSyncs i) (i .blank) (i .overlay) e
   where
     same : (p : Bool) → bit word 12 ≡ false → blinked p word ≡ word % 4096
@@ -95,9 +95,9 @@ colour-ok : (bits : ℕ) → stepsOk (colourOf bits) ≡ true
 colour-ok bits =
     rw (le-leb (bits % 16) 15 (omega arith), le-leb (bits / 16 % 16) 15 (omega arith), le-leb (bits / 256 % 16) 15 (omega arith))
 
-pub shown-ok : (i : Inputs) (word : ℕ) → stepsOk (shown i word) ≡ true
-unfolding shown
-shown-ok i word = go (oneSync i) (bothSyncs i || i .blank) (i .overlay)
+pub asks-ok : (i : Inputs) (word : ℕ) → stepsOk (asks i word) ≡ true
+unfolding asks
+asks-ok i word = go (oneSync i) (bothSyncs i || i .blank) (i .overlay)
   where
     go : (s b o : Bool)
         → stepsOk (cond s Sync (cond b Blank (cond o (Overlay (i .red) (i .green) (i .blue)) (colourOf (blinked (i .blink) word)))))

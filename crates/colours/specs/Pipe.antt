@@ -10,7 +10,7 @@ use Rattle.colours.specs.declared.Output.{Output}
 use Rattle.colours.specs.declared.Output.the-variants.{Blank, Colour}
 use Rattle.colours.specs.declared.Inputs.{Inputs}
 use Rattle.colours.specs.State.{fresh, moved, pipe}
-use Rattle.colours.specs.Calls.{pixelRefusal, asks, pixelCall}
+use Rattle.colours.specs.Calls.{pixelRefusal, asksAt, pixelCall}
 use Rattle.colours.specs.StateLaws.{write-pipe, low-pipe, high-pipe}
 use Rattle.colours.specs.Session.{Board, board, Event, Write, WriteLow, WriteHigh, Pixel, Lend, after, session, Passed, asked, came, passing, passed}
 
@@ -26,7 +26,7 @@ NotPixel (Lend t) = Unit {0}
 
 pub after-pipe : (e : Event) (b : Board) → NotPixel e → pipe (after e b .state) ≡ pipe (b .state)
 after-pipe (Write address value) b q = write-pipe (b .state) (b .table) address value
-after-pipe (WriteLow low) b q = low-pipe (b .state) (b .table) low
+after-pipe (WriteLow low) b q = low-pipe (b .state) low
 after-pipe (WriteHigh address high) b q = high-pipe (b .state) (b .table) address high
 after-pipe (Pixel i) b q = absurd q
 after-pipe (Lend t) b q = refl
@@ -52,7 +52,7 @@ module _ (b : Board) (ps : List Passed) (behind : List Output) where
   pixel-first i = go (eqb (pixelRefusal (b .state) (length (b .table)) (i .address)) 0)
     where
       go : (t : Bool)
-          → Delayed ps (pipe (cond t (moved (b .state) (asks (b .table) i)) (b .state))) behind
+          → Delayed ps (pipe (cond t (moved (b .state) (asksAt (b .table) i)) (b .state))) behind
           → Delayed
           (cond t (record { inputs = i; table = b .table; output = cond t (b .state .first) (Colour 0 0 0) } ∷ ps) ps)
           (pipe (b .state)) behind
@@ -77,7 +77,8 @@ pipe-delays (e ∷ es) b =
 
 -- ---- by place. d stands past the end of a list, where no law looks
 
-mapped-at : {A B : Type 0} (f : A → B) (l : List A) (k : ℕ) (d : A) (e : B) → k < length l → getD (map f l) k e ≡ f (getD l k d)
+-- as `List·getD-map`, with another stand-in for each list
+pub mapped-at : {A B : Type 0} (f : A → B) (l : List A) (k : ℕ) (d : A) (e : B) → k < length l → getD (map f l) k e ≡ f (getD l k d)
 mapped-at f [] k d e h = absurd (omega arith)
 mapped-at f (x ∷ l) zero d e h = refl
 mapped-at f (x ∷ l) (suc k) d e h = mapped-at f l k d e (omega arith)

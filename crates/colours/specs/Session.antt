@@ -6,7 +6,7 @@ use lib.Dec.{eqb}
 use Rattle.colours.specs.declared.Colours.{Colours}
 use Rattle.colours.specs.declared.Output.{Output}
 use Rattle.colours.specs.declared.Inputs.{Inputs}
-use Rattle.colours.specs.Calls.{Outcome, writeCall, writeLowCall, writeHighCall, asks, pixelCall}
+use Rattle.colours.specs.Calls.{Outcome, writeCall, writeLowCall, writeHighCall, asksAt, pixelCall}
 
 -- the state, and the table that is lent
 pub record Board : Type 0 where
@@ -49,7 +49,7 @@ pub record Passed : Type 0 where
 
 -- what it asked for
 abbrev pub asked : Passed → Output
-asked p = asks (p .table) (p .inputs)
+asked p = asksAt (p .table) (p .inputs)
 
 abbrev pub came : Passed → Output
 came p = p .output

@@ -11,9 +11,9 @@ use Rattle.colours.specs.declared.Waiting.{Waiting}
 use Rattle.colours.specs.declared.Waiting.the-variants.{None, Low}
 use Rattle.colours.specs.declared.Inputs.{Inputs}
 use Rattle.colours.specs.Table.{wordAt}
-use Rattle.colours.specs.OutputLaws.{shown-ok}
+use Rattle.colours.specs.OutputLaws.{asks-ok}
 use Rattle.colours.specs.State.{fresh, withWaiting, moved, pipe, stepsOk, ruled}
-use Rattle.colours.specs.Calls.{writeRefusal, lowRefusal, highRefusal, pixelRefusal, writeCall, writeLowCall, writeHighCall, asks, pixelCall}
+use Rattle.colours.specs.Calls.{writeRefusal, lowRefusal, highRefusal, pixelRefusal, writeCall, writeLowCall, writeHighCall, asksAt, pixelCall}
 
 -- ---- the rule
 
@@ -27,22 +27,23 @@ unfolding ruled
 waiting-ruled s w = refl
 
 -- what is asked for enters a pipe that the rules allow
-pub moved-ruled : (s : Colours) (t : List ℕ) (i : Inputs) → ruled s ≡ true → ruled (moved s (asks t i)) ≡ true
+pub moved-ruled : (s : Colours) (t : List ℕ) (i : Inputs) → ruled s ≡ true → ruled (moved s (asksAt t i)) ≡ true
 unfolding ruled
 moved-ruled s t i e =
     let f = both (stepsOk (s .first) && stepsOk (s .second)) (stepsOk (s .third)) e in
     let g = both (stepsOk (s .first)) (stepsOk (s .second)) (f .0) in
-    rw (g .1, f .1, shown-ok i (wordAt t (i .address)))
+    rw (g .1, f .1, asks-ok i (wordAt t (i .address)))
+
+pub low-ruled : (s : Colours) (low : ℕ) → ruled s ≡ true → ruled (writeLowCall s low .state) ≡ true
+unfolding writeLowCall
+low-ruled s low r =
+    leaves-holds (λ (x : Colours). ruled x ≡ true) (lowRefusal s) s (withWaiting s (Low low)) r (rw (waiting-ruled s (Low low)) r)
 
 module _ (s : Colours) (t : List ℕ) (r : ruled s ≡ true) where
   pub write-ruled : (address value : ℕ) → ruled (writeCall s t address value .answer .state) ≡ true
   unfolding writeCall
   write-ruled address value =
       leaves-holds (λ (x : Colours). ruled x ≡ true) (writeRefusal s (length t) address value) s (withWaiting s None) r (rw (waiting-ruled s None) r)
-
-  pub low-ruled : (low : ℕ) → ruled (writeLowCall s low .state) ≡ true
-  unfolding writeLowCall
-  low-ruled low = leaves-holds (λ (x : Colours). ruled x ≡ true) (lowRefusal s) s (withWaiting s (Low low)) r (rw (waiting-ruled s (Low low)) r)
 
   pub high-ruled : (address high : ℕ) → ruled (writeHighCall s t address high .answer .state) ≡ true
   unfolding writeHighCall
@@ -52,19 +53,19 @@ module _ (s : Colours) (t : List ℕ) (r : ruled s ≡ true) where
   pub pixel-ruled : (i : Inputs) → ruled (pixelCall s t i .state) ≡ true
   unfolding pixelCall
   pixel-ruled i =
-      leaves-holds (λ (x : Colours). ruled x ≡ true) (pixelRefusal s (length t) (i .address)) s (moved s (asks t i)) r (moved-ruled s t i r)
+      leaves-holds (λ (x : Colours). ruled x ≡ true) (pixelRefusal s (length t) (i .address)) s (moved s (asksAt t i)) r (moved-ruled s t i r)
 
 -- ---- a write moves nothing in the pipe, and a pixel leaves the low part
+
+pub low-pipe : (s : Colours) (low : ℕ) → pipe (writeLowCall s low .state) ≡ pipe s
+unfolding writeLowCall
+low-pipe s low = leaves-holds (λ (x : Colours). pipe x ≡ pipe s) (lowRefusal s) s (withWaiting s (Low low)) refl refl
 
 module _ (s : Colours) (t : List ℕ) where
   pub write-pipe : (address value : ℕ) → pipe (writeCall s t address value .answer .state) ≡ pipe s
   unfolding writeCall
   write-pipe address value =
       leaves-holds (λ (x : Colours). pipe x ≡ pipe s) (writeRefusal s (length t) address value) s (withWaiting s None) refl refl
-
-  pub low-pipe : (low : ℕ) → pipe (writeLowCall s low .state) ≡ pipe s
-  unfolding writeLowCall
-  low-pipe low = leaves-holds (λ (x : Colours). pipe x ≡ pipe s) (lowRefusal s) s (withWaiting s (Low low)) refl refl
 
   pub high-pipe : (address high : ℕ) → pipe (writeHighCall s t address high .answer .state) ≡ pipe s
   unfolding writeHighCall
@@ -74,4 +75,4 @@ module _ (s : Colours) (t : List ℕ) where
   pub pixel-waiting : (i : Inputs) → pixelCall s t i .state .waiting ≡ s .waiting
   unfolding pixelCall
   pixel-waiting i =
-      leaves-holds (λ (x : Colours). x .waiting ≡ s .waiting) (pixelRefusal s (length t) (i .address)) s (moved s (asks t i)) refl refl
+      leaves-holds (λ (x : Colours). x .waiting ≡ s .waiting) (pixelRefusal s (length t) (i .address)) s (moved s (asksAt t i)) refl refl

@@ -37,7 +37,7 @@ module _ (s : Colours) (t : List ℕ) (address : ℕ) (r : Ready s (length t) ad
   pub parts-agree : (low high : ℕ) → low < 256
       → writeHighCall (writeLowCall s low .state) t address high ≡ writeCall s t address (joined low high)
   parts-agree low high h =
-      ap (λ (x : Coloured). writeHighCall (x .state) t address high) (low-makes s t low (r .rule))
+      ap (λ (x : Coloured). writeHighCall (x .state) t address high) (low-makes s low (r .rule))
       ∙ high-makes (withWaiting s (Low low)) t address high (ready-waiting s (length t) address (Low low) r) refl
       ∙ sym (write-makes s t address (joined low high) r (joined-small low high h))
 
@@ -87,27 +87,27 @@ stored : (t : List ℕ) (address value : ℕ) → address < length t → value �
 stored t address value l h = rw (getD-set-same t address value 0 l) (omega arith)
 
 module _ (s : Colours) (t : List ℕ) (address value : ℕ) (r : Ready s (length t) address) (h : value ≤ 8191) where
-  abbrev after : List ℕ
-  after = writeCall s t address value .table
+  abbrev tableAfter : List ℕ
+  tableAfter = writeCall s t address value .table
 
-  after-is : after ≡ set t address value
+  after-is : tableAfter ≡ set t address value
   after-is = ap (λ (o : Outcome). o .table) (write-makes s t address value r h)
 
-  here : wordAt after address ≡ value
+  here : wordAt tableAfter address ≡ value
   here = ap (λ (l : List ℕ). wordAt l address) after-is ∙ stored t address value (omega (arith, r .reached .table, r .reached .within)) h
 
-  reached : Reached (length after) address
+  reached : Reached (length tableAfter) address
   reached = rw (after-is, length-set t address value) (r .reached)
 
   -- what was written, in 16 bits and in 8; with `parts-agree` the same of what was written in 8
-  pub read-back : readCall after address ≡ worded 0 value
-  read-back = read-makes after address reached ∙ ap (worded 0) here
+  pub read-back : readCall tableAfter address ≡ worded 0 value
+  read-back = read-makes tableAfter address reached ∙ ap (worded 0) here
 
-  pub read-low-back : readLowCall after address ≡ byted 0 (lowOf value)
-  read-low-back = read-low-makes after address reached ∙ ap (λ (w : ℕ). byted 0 (lowOf w)) here
+  pub read-low-back : readLowCall tableAfter address ≡ byted 0 (lowOf value)
+  read-low-back = read-low-makes tableAfter address reached ∙ ap (λ (w : ℕ). byted 0 (lowOf w)) here
 
-  pub read-high-back : readHighCall after address ≡ byted 0 (highOf value)
-  read-high-back = read-high-makes after address reached ∙ ap (λ (w : ℕ). byted 0 (highOf w)) here
+  pub read-high-back : readHighCall tableAfter address ≡ byted 0 (highOf value)
+  read-high-back = read-high-makes tableAfter address reached ∙ ap (λ (w : ℕ). byted 0 (highOf w)) here
 
 -- the two parts of a word that was written in parts: the low one as it was, of the high one five bits
 joined-low : (low high : ℕ) → low < 256 → lowOf (joined low high) ≡ low
@@ -140,20 +140,50 @@ module _ (s : Colours) (t : List ℕ) (address low high : ℕ) (r : Ready s (len
       ∙ read-high-back s t address (joined low high) r (joined-small low high h)
       ∙ ap (byted 0) (joined-high low high h)
 
--- every other word is as it was, whatever was written, accepted or not
-module _ (s : Colours) (t : List ℕ) (address other : ℕ) (n : other ≢ address) where
-  pub write-others : (value : ℕ) → getD (writeCall s t address value .table) other 0 ≡ getD t other 0
-  unfolding writeCall
-  write-others value =
-      leaves-holds (λ (l : List ℕ). getD l other 0 ≡ getD t other 0) (writeRefusal s (length t) address value) t (set t address value)
-      refl (getD-set-other t address other value 0 n)
+-- ---- every other word is as it was, and reads as it did, whatever was written, accepted or not
 
-  pub high-others : (high : ℕ) → getD (writeHighCall s t address high .table) other 0 ≡ getD t other 0
+module _ (s : Colours) (t : List ℕ) (address : ℕ) where
+  pub write-length : (value : ℕ) → length (writeCall s t address value .table) ≡ length t
+  unfolding writeCall
+  write-length value =
+      leaves-holds (λ (l : List ℕ). length l ≡ length t) (writeRefusal s (length t) address value) t (set t address value)
+      refl (length-set t address value)
+
+  pub high-length : (high : ℕ) → length (writeHighCall s t address high .table) ≡ length t
   unfolding writeHighCall
-  high-others high =
-      leaves-holds (λ (l : List ℕ). getD l other 0 ≡ getD t other 0) (highRefusal s (length t) address)
-      t (set t address (joined (lowWaiting (s .waiting)) high))
-      refl (getD-set-other t address other (joined (lowWaiting (s .waiting)) high) 0 n)
+  high-length high =
+      let word = joined (lowWaiting (s .waiting)) high in
+      leaves-holds (λ (l : List ℕ). length l ≡ length t) (highRefusal s (length t) address) t (set t address word)
+      refl (length-set t address word)
+
+  module _ (other : ℕ) (n : other ≢ address) where
+    pub write-others : (value : ℕ) → getD (writeCall s t address value .table) other 0 ≡ getD t other 0
+    unfolding writeCall
+    write-others value =
+        leaves-holds (λ (l : List ℕ). getD l other 0 ≡ getD t other 0) (writeRefusal s (length t) address value) t (set t address value)
+        refl (getD-set-other t address other value 0 n)
+
+    pub high-others : (high : ℕ) → getD (writeHighCall s t address high .table) other 0 ≡ getD t other 0
+    unfolding writeHighCall
+    high-others high =
+        let word = joined (lowWaiting (s .waiting)) high in
+        leaves-holds (λ (l : List ℕ). getD l other 0 ≡ getD t other 0) (highRefusal s (length t) address) t (set t address word)
+        refl (getD-set-other t address other word 0 n)
+
+-- tables of one length with one word at an address read alike there
+read-alike : (t u : List ℕ) (address : ℕ) → length u ≡ length t → getD u address 0 ≡ getD t address 0 → readCall u address ≡ readCall t address
+unfolding readCall
+read-alike t u address l e = rw (l, e)
+
+pub write-reads-others : (s : Colours) (t : List ℕ) (address value other : ℕ) → other ≢ address
+    → readCall (writeCall s t address value .table) other ≡ readCall t other
+write-reads-others s t address value other n =
+    read-alike t (writeCall s t address value .table) other (write-length s t address value) (write-others s t address other n value)
+
+pub high-reads-others : (s : Colours) (t : List ℕ) (address high other : ℕ) → other ≢ address
+    → readCall (writeHighCall s t address high .table) other ≡ readCall t other
+high-reads-others s t address high other n =
+    read-alike t (writeHighCall s t address high .table) other (high-length s t address high) (high-others s t address other n high)
 
 -- zeros above bit 4 of a high read, refused or not
 pub high-read-small : (t : List ℕ) (address : ℕ) → readHighCall t address .byte < 32

@@ -1,25 +1,32 @@
 // The Am8159 colour palette: its table, the two ways to reach it, and what comes out for a pixel. Source document 003: Pin Description,
 // Functional Description with Table 1 (the modes) and Table 2 (the function table), Color Data Input/Output; change request M-112 decides
 // what they leave open.
-// A call stands for a whole access, or for one pixel clock with its inputs. Not modelled: volts, currents and the reference, the converters
-// and their timing, pin edges and the clocks between accesses; so in Update and Readback nothing is shown, and the pipe waits.
-// Where sheet and request differ, or the sheet is silent: the sheet's list of delayed signals leaves out BLINK, here all inputs of a pixel
-// have the same delay; the sheet latches the RAM's word one clock after the address, here the table is read as the inputs enter, so a write
-// between changes nothing that is on its way; the sheet gives the low level of an overlay and step 0 one voltage, here each is a level of its
-// own; where no low part was written the sheet says nothing of five high bits, here they are refused; before the first pixel comes out
-// the outputs are at blank level.
+// A call stands for a whole access, or for one pixel clock with its inputs: S1 is which of the two it is, H/L which 8-bit access, and S0
+// low is a pixel's overlay. Not modelled: volts, currents and the reference, the converters and their timing, pin edges, the clocks
+// between accesses.
+// Where sheet and request differ, or the sheet is silent:
+// - the sheet's list of delayed signals leaves out BLINK; here all inputs of a pixel have the same delay;
+// - the sheet latches the RAM's word one clock after the address, and has registers that are transparent during an access; here the table is
+//   read as the inputs enter, and no access disturbs what is on its way;
+// - Table 2 has sync and blank come out whatever S1 is; here an access is no clock, and nothing comes out of it;
+// - Table 1 has no address for an overlay; here the address of every pixel is judged;
+// - the sheet has the low bits written to the RAM before the high ones, and does not say what happens otherwise; here they wait beside the
+//   table, have no address of their own, and high bits with none waiting are refused; nor does it mix the two widths, where here a 16-bit
+//   write drops what waits;
+// - an overlay's gun that is off has the voltage of step 0; here reference black is a level of its own;
+// - before the first pixel comes out the outputs are at blank level.
 ghost use mathlib.Core.Path.{_≡_};
 ghost use Rattle.colours.specs.State.{fresh};
 
 mod access;
+mod asks;
 mod parts;
 mod pixel;
 pub mod reads;
-mod shown;
 mod state;
 mod writes;
 
-// The level of one gun: a step of the colour, or a name.
+// The level of one gun: a step of the colour, or a name. Black is reference black, white peak white, brighter than step 15.
 pub enum Level {
     Step(u8),
     Sync,
@@ -35,7 +42,8 @@ pub struct Levels {
     pub blue: Level,
 }
 
-// What comes out for a pixel: nothing but what a pixel can make. An overlay has each gun on or off, a colour three steps.
+// What comes out for a pixel: sync, blank, an overlay with each gun on or off, or a colour of three steps. All but a step over 15 is what a
+// pixel can make.
 pub enum Output {
     Sync,
     Blank,
@@ -84,14 +92,14 @@ pub struct Emitted {
     pub number: u32,
 }
 
-// What a 16-bit read answers: the number given back, and the word.
+// What a 16-bit read answers: the number given back, and the word. In C it is `linkshoar_word`.
 #[repr(C)]
 pub struct Word {
     pub number: u32,
     pub word: u16,
 }
 
-// What an 8-bit read answers: the number given back, and the part.
+// What an 8-bit read answers: the number given back, and the part. In C it is `linkshoar_byte`.
 #[repr(C)]
 pub struct Byte {
     pub number: u32,

@@ -26,7 +26,7 @@ impl Colours {
                 },
             );
         }
-        let asked = inputs.shown(word_at(table, address));
+        let asked = inputs.asks(word_at(table, address));
         let first = self.first;
         self.moved(asked).emitted(numbers::DONE, first)
     }

@@ -46,6 +46,7 @@ impl Output {
 }
 
 impl Colours {
+    // Another low part, or none.
     pub(crate) fn with_waiting(self, waiting: Waiting) -> Colours
         ensures { λ r. ⌜ r ≡ withWaiting self waiting ⌝ }
     {

@@ -8,11 +8,17 @@ use Rattle.colours.specs.declared.Coloured.{Coloured as Below}
 use Rattle.colours.specs.declared.Emitted.{Emitted as EmittedBelow}
 use Rattle.colours.specs.Calls.{Outcome as OutcomeBelow, writeCall, writeLowCall, writeHighCall, pixelCall}
 use Rattle.colours_c.specs.declared.Held.{Held}
-use Rattle.colours_c.specs.declared.Pins.{Pins}
+use Rattle.colours_c.specs.declared.HeldInputs.{HeldInputs}
 use Rattle.colours_c.specs.declared.Coloured.{Coloured}
 use Rattle.colours_c.specs.declared.Emitted.{Emitted}
-use Rattle.colours_c.specs.Levels.{triple, handedOutput}
+use Rattle.colours_c.specs.Levels.{heldLevels, handedOutput}
 use Rattle.colours_c.specs.State.{lawful, taken, handed, takenInputs}
+
+-- a call that takes the state from C: what it makes of the state, and where the rules exclude it the answer with number 1
+abbrev pub taking : {A : Type 0} → Held → (Colours → A) → A → A
+taking h made excluded = cond (lawful h) (made (taken h)) excluded
+
+-- ---- a write without the table
 
 abbrev pub handedOn : Below → Coloured
 handedOn r = record { state = handed (r .state); number = r .number }
@@ -21,7 +27,7 @@ abbrev pub heldExcluded : Held → Coloured
 heldExcluded h = record { state = h; number = 1 }
 
 unfoldable pub heldLow : Held → ℕ → Coloured
-heldLow h low = cond (lawful h) (handedOn (writeLowCall (taken h) low)) (heldExcluded h)
+heldLow h low = taking h (λ s. handedOn (writeLowCall s low)) (heldExcluded h)
 
 -- ---- writes to the table
 
@@ -36,15 +42,11 @@ outcome r t = record { answer = r; table = t }
 abbrev pub handedOutcome : OutcomeBelow → Outcome
 handedOutcome o = outcome (handedOn (o .answer)) (o .table)
 
--- any write below
-unfoldable pub heldBy : (Colours → List ℕ → OutcomeBelow) → Held → List ℕ → Outcome
-heldBy call h t = cond (lawful h) (handedOutcome (call (taken h) t)) (outcome (heldExcluded h) t)
+unfoldable pub heldWrite : Held → List ℕ → ℕ → ℕ → Outcome
+heldWrite h t address value = taking h (λ s. handedOutcome (writeCall s t address value)) (outcome (heldExcluded h) t)
 
-abbrev pub heldWrite : Held → List ℕ → ℕ → ℕ → Outcome
-heldWrite h t address value = heldBy (λ s l. writeCall s l address value) h t
-
-abbrev pub heldHigh : Held → List ℕ → ℕ → ℕ → Outcome
-heldHigh h t address high = heldBy (λ s l. writeHighCall s l address high) h t
+unfoldable pub heldHigh : Held → List ℕ → ℕ → ℕ → Outcome
+heldHigh h t address high = taking h (λ s. handedOutcome (writeHighCall s t address high)) (outcome (heldExcluded h) t)
 
 -- ---- a pixel
 
@@ -52,7 +54,7 @@ abbrev pub handedOnPixel : EmittedBelow → Emitted
 handedOnPixel r = record { state = handed (r .state); levels = handedOutput (r .output); number = r .number }
 
 abbrev pub pixelExcluded : Held → Emitted
-pixelExcluded h = record { state = h; levels = triple 0 0 0; number = 1 }
+pixelExcluded h = record { state = h; levels = heldLevels 0 0 0; number = 1 }
 
-unfoldable pub heldPixel : Held → List ℕ → Pins → Emitted
-heldPixel h t p = cond (lawful h) (handedOnPixel (pixelCall (taken h) t (takenInputs p))) (pixelExcluded h)
+unfoldable pub heldPixel : Held → List ℕ → HeldInputs → Emitted
+heldPixel h t p = taking h (λ s. handedOnPixel (pixelCall s t (takenInputs p))) (pixelExcluded h)

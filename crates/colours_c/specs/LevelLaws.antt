@@ -11,18 +11,18 @@ use Rattle.colours.specs.declared.Output.{Output}
 use Rattle.colours.specs.declared.Output.the-variants.{Sync, Blank, Overlay, Colour}
 use Rattle.colours.specs.Output.{overlaid}
 use Rattle.colours.specs.State.{stepsOk}
-use Rattle.colours_c.specs.declared.Triple.{Triple}
+use Rattle.colours_c.specs.declared.HeldLevels.{HeldLevels}
 use Rattle.colours_c.specs.Levels.{numberOf, handedOutput, isBlanked, blackOrWhite, isOverlay, isColour, makes, takenOutput}
 
 -- ---- three levels, by what they are
 
-pub data Kind (l : Triple) : Type 0 where
+pub data Kind (l : HeldLevels) : Type 0 where
   sync : l .red ≡ 17 → l .green ≡ 16 → l .blue ≡ 17 → Kind l
   blank : l .red ≡ 17 → l .green ≡ 17 → l .blue ≡ 17 → Kind l
   overlay : blackOrWhite (l .red) ≡ true → blackOrWhite (l .green) ≡ true → blackOrWhite (l .blue) ≡ true → Kind l
   steps : l .red ≤ 15 → l .green ≤ 15 → l .blue ≤ 15 → Kind l
 
-blanked-kind : (l : Triple) → isBlanked l ≡ true → Kind l
+blanked-kind : (l : HeldLevels) → isBlanked l ≡ true → Kind l
 blanked-kind l e =
     let f = both (eqb (l .red) 17 && eqb (l .blue) 17) (eqb (l .green) 16 || eqb (l .green) 17) e in
     let g = both (eqb (l .red) 17) (eqb (l .blue) 17) (f .0) in
@@ -31,19 +31,19 @@ blanked-kind l e =
     either (Kind l) (eqb (l .green) 16) (eqb (l .green) 17) (f .1)
     (λ h. sync r (eqb-true (l .green) 16 h) b) (λ h. blank r (eqb-true (l .green) 17 h) b)
 
-overlay-kind : (l : Triple) → isOverlay l ≡ true → Kind l
+overlay-kind : (l : HeldLevels) → isOverlay l ≡ true → Kind l
 overlay-kind l e =
     let f = both (blackOrWhite (l .red) && blackOrWhite (l .green)) (blackOrWhite (l .blue)) e in
     let g = both (blackOrWhite (l .red)) (blackOrWhite (l .green)) (f .0) in
     overlay (g .0) (g .1) (f .1)
 
-colour-kind : (l : Triple) → isColour l ≡ true → Kind l
+colour-kind : (l : HeldLevels) → isColour l ≡ true → Kind l
 colour-kind l e =
     let f = both (leb (l .red) 15 && leb (l .green) 15) (leb (l .blue) 15) e in
     let g = both (leb (l .red) 15) (leb (l .green) 15) (f .0) in
     steps (leb-true (l .red) 15 (g .0)) (leb-true (l .green) 15 (g .1)) (leb-true (l .blue) 15 (f .1))
 
-pub kind-of : (l : Triple) → makes l ≡ true → Kind l
+pub kind-of : (l : HeldLevels) → makes l ≡ true → Kind l
 unfolding makes
 kind-of l e =
     either (Kind l) (isBlanked l || isOverlay l) (isColour l) e
@@ -61,7 +61,7 @@ overlay-green : (n : ℕ) → blackOrWhite n ≡ true → 18 ≤ n
 overlay-green n e =
     either (18 ≤ n) (eqb n 18) (eqb n 19) e (λ p. omega (arith, eqb-true n 18 p)) (λ p. omega (arith, eqb-true n 19 p))
 
-pub handed-taken-output : (l : Triple) → makes l ≡ true → handedOutput (takenOutput l) ≡ l
+pub handed-taken-output : (l : HeldLevels) → makes l ≡ true → handedOutput (takenOutput l) ≡ l
 unfolding handedOutput takenOutput
 handed-taken-output l e = go (kind-of l e)
   where
@@ -86,7 +86,7 @@ handed-taken-output l e = go (kind-of l e)
         )
 
 -- what C may hand over is no step over 15
-pub taken-steps : (l : Triple) → makes l ≡ true → stepsOk (takenOutput l) ≡ true
+pub taken-steps : (l : HeldLevels) → makes l ≡ true → stepsOk (takenOutput l) ≡ true
 unfolding takenOutput
 taken-steps l e = go (kind-of l e)
   where

@@ -7,10 +7,10 @@ use Rattle.colours.specs.declared.Level.the-variants as level
 use Rattle.colours.specs.declared.Output.{Output}
 use Rattle.colours.specs.declared.Output.the-variants.{Sync, Blank, Overlay, Colour}
 use Rattle.colours.specs.Output.{levelsOf}
-use Rattle.colours_c.specs.declared.Triple.{Triple}
+use Rattle.colours_c.specs.declared.HeldLevels.{HeldLevels}
 
-abbrev pub triple : ℕ → ℕ → ℕ → Triple
-triple red green blue = record { red = red; green = green; blue = blue }
+abbrev pub heldLevels : ℕ → ℕ → ℕ → HeldLevels
+heldLevels red green blue = record { red = red; green = green; blue = blue }
 
 -- a step is its number, and the names follow
 abbrev pub numberOf : Level → ℕ
@@ -20,29 +20,29 @@ numberOf level.Blank = 17
 numberOf level.Black = 18
 numberOf level.White = 19
 
-unfoldable pub handedOutput : Output → Triple
-handedOutput o = let l = levelsOf o in triple (numberOf (l .red)) (numberOf (l .green)) (numberOf (l .blue))
+unfoldable pub handedOutput : Output → HeldLevels
+handedOutput o = let l = levelsOf o in heldLevels (numberOf (l .red)) (numberOf (l .green)) (numberOf (l .blue))
 
 -- ---- three levels that a pixel can make together
 
 -- green at sync or blank level, and the others at blank level
-abbrev pub isBlanked : Triple → Bool
+abbrev pub isBlanked : HeldLevels → Bool
 isBlanked l = (eqb (l .red) 17 && eqb (l .blue) 17) && (eqb (l .green) 16 || eqb (l .green) 17)
 
 abbrev pub blackOrWhite : ℕ → Bool
 blackOrWhite n = eqb n 18 || eqb n 19
 
-abbrev pub isOverlay : Triple → Bool
+abbrev pub isOverlay : HeldLevels → Bool
 isOverlay l = (blackOrWhite (l .red) && blackOrWhite (l .green)) && blackOrWhite (l .blue)
 
-abbrev pub isColour : Triple → Bool
+abbrev pub isColour : HeldLevels → Bool
 isColour l = (leb (l .red) 15 && leb (l .green) 15) && leb (l .blue) 15
 
-unfoldable pub makes : Triple → Bool
+unfoldable pub makes : HeldLevels → Bool
 makes l = (isBlanked l || isOverlay l) || isColour l
 
 -- which output they are: green tells
-unfoldable pub takenOutput : Triple → Output
+unfoldable pub takenOutput : HeldLevels → Output
 takenOutput l =
     cond (eqb (l .green) 16) Sync
     (cond (eqb (l .green) 17) Blank

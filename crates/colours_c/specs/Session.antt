@@ -1,45 +1,49 @@
--- Calls from C one after the other are those of `colours`: what holds of sessions there holds in C. Assumes nothing.
-use Prim.Native.Nat.{ℕ}
-use mathlib.Core.Path.{_≡_, refl, ap, _∙_}
+-- Calls from C one after the other are those of `colours`: what holds of sessions there holds in C, the delay among it. Assumes nothing.
+use Prim.Native.Nat.{ℕ, zero, suc, _+_, _<_}
+use mathlib.Core.Path.{_≡_, refl, sym, ap, _∙_}
 use mathlib.Core.Bool.{Bool, true, false, cond}
-use mathlib.Core.List.{List, [], _∷_, _++_, map}
+use mathlib.Core.List.{List, [], _∷_, map}
+use native.Mathlib.Omega.{arith}
 use lib.Dec.{eqb}
+use lib.ListN.{length, getD, length-map}
 use Rattle.colours.specs.declared.Colours.{Colours}
-use Rattle.colours.specs.declared.Output.{Output}
-use Rattle.colours.specs.State.{pipe, ruled}
-use Rattle.colours.specs.Calls.{writeCall, writeLowCall, writeHighCall, pixelCall, Outcome as OutcomeBelow}
-use Rattle.colours.specs.Session.{Board, Event, Write, WriteLow, WriteHigh, Pixel, Lend, after, session, Passed, asked, came, passing, passed}
+use Rattle.colours.specs.declared.Output.the-variants.{Blank}
+use Rattle.colours.specs.State.{fresh, pipe, ruled}
+use Rattle.colours.specs.StateLaws.{fresh-ruled}
+use Rattle.colours.specs.Calls.{writeCall, writeLowCall, writeHighCall, pixelCall}
+use Rattle.colours.specs.Session.{Board, board, Event, Write, WriteLow, WriteHigh, Pixel, Lend, after, session, Passed, asked, came, passing, passed}
 use Rattle.colours.specs.SessionLaws.{after-ruled}
-use Rattle.colours.specs.Pipe.{pipe-delays}
+use Rattle.colours.specs.Pipe.{mapped-at, first-three, three-later}
 use Rattle.colours_c.specs.declared.Held.{Held}
-use Rattle.colours_c.specs.declared.Pins.{Pins}
-use Rattle.colours_c.specs.declared.Triple.{Triple}
+use Rattle.colours_c.specs.declared.HeldInputs.{HeldInputs}
+use Rattle.colours_c.specs.declared.HeldLevels.{HeldLevels}
 use Rattle.colours_c.specs.declared.Emitted.{Emitted}
-use Rattle.colours_c.specs.Levels.{handedOutput}
-use Rattle.colours_c.specs.State.{handed, takenInputs}
-use Rattle.colours_c.specs.StateLaws.{taken-handed, handed-lawful}
-use Rattle.colours_c.specs.Calls.{handedOn, heldLow, Outcome, handedOutcome, heldBy, heldWrite, heldHigh, handedOnPixel, heldPixel}
+use Rattle.colours_c.specs.Levels.{heldLevels, handedOutput}
+use Rattle.colours_c.specs.State.{lawful, taken, handed, takenInputs}
+use Rattle.colours_c.specs.StateLaws.{handed-taken, taken-ruled, handed-lawful}
+use Rattle.colours_c.specs.Calls.{handedOn, heldExcluded, heldLow, Outcome, outcome, handedOutcome, heldWrite, heldHigh, handedOnPixel, pixelExcluded, heldPixel}
+use Rattle.colours_c.specs.CallLaws.{taking-handed}
 
 -- ---- one call on a state that was handed to C
 
 module _ (s : Colours) (t : List ℕ) (r : ruled s ≡ true) where
-  held-by : (call : Colours → List ℕ → OutcomeBelow) → heldBy call (handed s) t ≡ handedOutcome (call s t)
-  unfolding heldBy
-  held-by call = rw (handed-lawful s r) (ap (λ (x : Colours). handedOutcome (call x t)) (taken-handed s r))
-
   pub held-write : (address value : ℕ) → heldWrite (handed s) t address value ≡ handedOutcome (writeCall s t address value)
-  held-write address value = held-by (λ x l. writeCall x l address value)
+  unfolding heldWrite
+  held-write address value =
+      taking-handed (λ x. handedOutcome (writeCall x t address value)) (outcome (heldExcluded (handed s)) t) s r
 
   pub held-high : (address high : ℕ) → heldHigh (handed s) t address high ≡ handedOutcome (writeHighCall s t address high)
-  held-high address high = held-by (λ x l. writeHighCall x l address high)
+  unfolding heldHigh
+  held-high address high =
+      taking-handed (λ x. handedOutcome (writeHighCall x t address high)) (outcome (heldExcluded (handed s)) t) s r
 
   pub held-low : (low : ℕ) → heldLow (handed s) low ≡ handedOn (writeLowCall s low)
   unfolding heldLow
-  held-low low = rw (handed-lawful s r) (ap (λ (x : Colours). handedOn (writeLowCall x low)) (taken-handed s r))
+  held-low low = taking-handed (λ x. handedOn (writeLowCall x low)) (heldExcluded (handed s)) s r
 
-  pub held-pixel : (p : Pins) → heldPixel (handed s) t p ≡ handedOnPixel (pixelCall s t (takenInputs p))
+  pub held-pixel : (p : HeldInputs) → heldPixel (handed s) t p ≡ handedOnPixel (pixelCall s t (takenInputs p))
   unfolding heldPixel
-  held-pixel p = rw (handed-lawful s r) (ap (λ (x : Colours). handedOnPixel (pixelCall x t (takenInputs p))) (taken-handed s r))
+  held-pixel p = taking-handed (λ x. handedOnPixel (pixelCall x t (takenInputs p))) (pixelExcluded (handed s)) s r
 
 -- ---- calls in a row
 
@@ -59,7 +63,7 @@ pub data HeldEvent : Type 0 where
   HeldWrite : (address value : ℕ) → HeldEvent
   HeldLow : (low : ℕ) → HeldEvent
   HeldHigh : (address high : ℕ) → HeldEvent
-  HeldPixel : (pins : Pins) → HeldEvent
+  HeldPixel : (pins : HeldInputs) → HeldEvent
   HeldLend : (table : List ℕ) → HeldEvent
 
 abbrev pub heldAfter : HeldEvent → HeldBoard → HeldBoard
@@ -75,14 +79,14 @@ heldSession [] b = b
 heldSession (e ∷ es) b = heldSession es (heldAfter e b)
 
 -- the levels that accepted pixels answer: a call before the others
-abbrev pub heldPassing : HeldEvent → HeldBoard → List Triple → List Triple
+abbrev pub heldPassing : HeldEvent → HeldBoard → List HeldLevels → List HeldLevels
 heldPassing (HeldWrite address value) b others = others
 heldPassing (HeldLow low) b others = others
 heldPassing (HeldHigh address high) b others = others
 heldPassing (HeldPixel p) b others = let r = heldPixel (b .state) (b .table) p in cond (eqb (r .number) 0) (r .levels ∷ others) others
 heldPassing (HeldLend t) b others = others
 
-abbrev pub heldCame : List HeldEvent → HeldBoard → List Triple
+abbrev pub heldCame : List HeldEvent → HeldBoard → List HeldLevels
 heldCame [] b = []
 heldCame (e ∷ es) b = heldPassing e b (heldCame es (heldAfter e b))
 
@@ -110,7 +114,7 @@ held-session (e ∷ es) b r =
     ap (heldSession es) (held-after e b r) ∙ held-session es (after (below e) b) (after-ruled (below e) b r)
 
 -- the levels of what came out
-abbrev pub levelsCame : Passed → Triple
+abbrev pub levelsCame : Passed → HeldLevels
 levelsCame p = handedOutput (came p)
 
 held-passing : (e : HeldEvent) (b : Board) → ruled (b .state) ≡ true → (ps : List Passed)
@@ -140,25 +144,89 @@ held-came (e ∷ es) b r =
     (ap (heldCame es) (held-after e b r) ∙ held-came es next (after-ruled (below e) b r))
     ∙ held-passing e b r (passed (map below es) next)
 
--- so in C too an accepted pixel answers what was asked for three before, after what was on its way
-pub held-delays : (es : List HeldEvent) (b : Board) → ruled (b .state) ≡ true
-    → heldCame es (handedBoard b) ++ map handedOutput (pipe (session (map below es) b .state))
-    ≡ map handedOutput (pipe (b .state)) ++ map (λ p. handedOutput (asked p)) (passed (map below es) b)
-held-delays es b r =
-    let ps = passed (map below es) b in
-    let behind = pipe (session (map below es) b .state) in
-    ap (λ (l : List Triple). l ++ map handedOutput behind) (held-came es b r)
-    ∙ joined came ps behind
-    ∙ ap (map handedOutput) (pipe-delays (map below es) b)
-    ∙ apart (pipe (b .state)) ps
-  where
-    joined : (f : Passed → Output) (ps : List Passed) (os : List Output)
-        → map (λ p. handedOutput (f p)) ps ++ map handedOutput os ≡ map handedOutput (map f ps ++ os)
-    joined f [] os = refl
-    joined f (p ∷ ps) os = ap (λ (l : List Triple). handedOutput (f p) ∷ l) (joined f ps os)
+-- ---- the delay, as C sees it
 
-    apart : (os : List Output) (ps : List Passed)
-        → map handedOutput (os ++ map asked ps) ≡ map handedOutput os ++ map (λ p. handedOutput (asked p)) ps
-    apart [] [] = refl
-    apart [] (p ∷ ps) = ap (λ (l : List Triple). handedOutput (asked p) ∷ l) (apart [] ps)
-    apart (o ∷ os) ps = ap (λ (l : List Triple). handedOutput o ∷ l) (apart os ps)
+-- what stands past the end of a list
+abbrev nobody : Passed
+nobody =
+    record {
+      inputs = record {
+        address = 0;
+        horizontal = false;
+        vertical = false;
+        blank = false;
+        overlay = false;
+        red = false;
+        green = false;
+        blue = false;
+        blink = false;
+      };
+      table = [];
+      output = Blank;
+    }
+
+module _ (es : List HeldEvent) (h : Held) (t : List ℕ) (e : lawful h ≡ true) where
+  -- the accepted pixels below
+  abbrev pub below-passed : List Passed
+  below-passed = passed (map below es) (board (taken h) t)
+
+  came-below : heldCame es (heldBoard h t) ≡ map levelsCame below-passed
+  came-below =
+      ap (λ (x : Held). heldCame es (heldBoard x t)) (sym (handed-taken h e)) ∙ held-came es (board (taken h) t) (taken-ruled h e)
+
+  length-below : length (heldCame es (heldBoard h t)) ≡ length below-passed
+  length-below = ap length came-below ∙ length-map below-passed levelsCame
+
+  -- d and p stand past the end of a list, where no law looks
+  at-below : (k : ℕ) (d : HeldLevels) (p : Passed) → k < length (heldCame es (heldBoard h t))
+      → getD (heldCame es (heldBoard h t)) k d ≡ levelsCame (getD below-passed k p)
+  at-below k d p l =
+      ap (λ (o : List HeldLevels). getD o k d) came-below ∙ mapped-at levelsCame below-passed k p d (rw (← length-below) l)
+
+  first-below : (k : ℕ) (d : HeldLevels) → k < 3 → k < length (heldCame es (heldBoard h t))
+      → getD (heldCame es (heldBoard h t)) k d ≡ handedOutput (getD (pipe (taken h)) k Blank)
+  first-below k d m l =
+      at-below k d nobody l ∙ ap handedOutput (first-three (map below es) (board (taken h) t) nobody k m (rw (← length-below) l))
+
+  -- the first three that are accepted answer what is on its way
+  pub held-first-three : (k : ℕ) (d : HeldLevels) → k < 3 → k < length (heldCame es (heldBoard h t))
+      → getD (heldCame es (heldBoard h t)) k d ≡ getD (h .first ∷ h .second ∷ h .third ∷ []) k d
+  unfolding handed
+  held-first-three zero d m l = first-below zero d m l ∙ ap (λ (x : Held). x .first) (handed-taken h e)
+  held-first-three (suc zero) d m l = first-below (suc zero) d m l ∙ ap (λ (x : Held). x .second) (handed-taken h e)
+  held-first-three (suc (suc zero)) d m l = first-below (suc (suc zero)) d m l ∙ ap (λ (x : Held). x .third) (handed-taken h e)
+  held-first-three (suc (suc (suc k))) d m l = absurd (omega arith)
+
+  -- and then each answers the levels of what the inputs of the third before asked for, with the table as it was when they entered
+  pub held-three-later : (k : ℕ) (d : HeldLevels) (p : Passed) → k + 3 < length (heldCame es (heldBoard h t))
+      → getD (heldCame es (heldBoard h t)) (k + 3) d ≡ handedOutput (asked (getD below-passed k p))
+  held-three-later k d p l =
+      at-below (k + 3) d p l
+      ∙ ap handedOutput (three-later (map below es) (board (taken h) t) p k (rw (← length-below) l))
+
+-- after `linkshoar_colours_fresh` the first three answer blank level on every gun
+pub held-first-blank : (es : List HeldEvent) (t : List ℕ) (k : ℕ) (d : HeldLevels) → k < 3
+    → k < length (heldCame es (heldBoard (handed fresh) t)) → getD (heldCame es (heldBoard (handed fresh) t)) k d ≡ heldLevels 17 17 17
+unfolding handed handedOutput
+held-first-blank es t k d m l = held-first-three es (handed fresh) t (handed-lawful fresh fresh-ruled) k d m l ∙ blank-at k m
+  where
+    blank-at : (k : ℕ) → k < 3 → getD (handed fresh .first ∷ handed fresh .second ∷ handed fresh .third ∷ []) k d ≡ heldLevels 17 17 17
+    blank-at zero m = refl
+    blank-at (suc zero) m = refl
+    blank-at (suc (suc zero)) m = refl
+    blank-at (suc (suc (suc k))) m = absurd (omega arith)
+
+-- ---- a state that is not lawful stays as it is, whatever is called
+
+after-excluded : (e : HeldEvent) (b : HeldBoard) → lawful (b .state) ≡ false → heldAfter e b .state ≡ b .state
+unfolding heldWrite heldLow heldHigh heldPixel
+after-excluded (HeldWrite address value) b n = rw n
+after-excluded (HeldLow low) b n = rw n
+after-excluded (HeldHigh address high) b n = rw n
+after-excluded (HeldPixel p) b n = rw n
+after-excluded (HeldLend t) b n = refl
+
+pub held-excluded : (es : List HeldEvent) (b : HeldBoard) → lawful (b .state) ≡ false → heldSession es b .state ≡ b .state
+held-excluded [] b n = refl
+held-excluded (e ∷ es) b n =
+    let same = after-excluded e b n in held-excluded es (heldAfter e b) (ap lawful same ∙ n) ∙ same

@@ -9,7 +9,7 @@ use Rattle.colours.specs.declared.Waiting.{Waiting}
 use Rattle.colours.specs.declared.Waiting.the-variants.{None, Low}
 use Rattle.colours.specs.State.{colours, waits, lowWaiting}
 use Rattle.colours_c.specs.declared.Held.{Held}
-use Rattle.colours_c.specs.declared.Pins.{Pins}
+use Rattle.colours_c.specs.declared.HeldInputs.{HeldInputs}
 use Rattle.colours_c.specs.Levels.{handedOutput, makes, takenOutput}
 
 -- a low part waits, or none does and it is 0
@@ -37,7 +37,7 @@ handed s =
     }
 
 -- an input byte that is not 0 is yes
-unfoldable pub takenInputs : Pins → Inputs
+unfoldable pub takenInputs : HeldInputs → Inputs
 takenInputs p =
     record {
       address = p .address;

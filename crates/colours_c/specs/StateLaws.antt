@@ -63,7 +63,7 @@ handed-taken h e =
       handed-taken-output (h .third) (p .third),
     )
 
--- so in C 1 is given exactly where the state is not lawful
+-- and is a state that the rules allow, so that 1 is `lawful`'s alone
 pub taken-ruled : (h : Held) → lawful h ≡ true → ruled (taken h) ≡ true
 unfolding taken ruled
 taken-ruled h e =

@@ -4,7 +4,7 @@ ghost use Rattle.colours_c.specs.Calls.{handedOn, handedOnPixel, heldExc
 use crate::Coloured;
 use crate::Emitted;
 use crate::Held;
-use crate::Triple;
+use crate::HeldLevels;
 use crate::levels::hand_output;
 use crate::state::hand;
 
@@ -44,7 +44,7 @@ pub(crate) fn excluded_pixel(state: Held) -> Emitted
 {
     Emitted {
         state,
-        levels: Triple {
+        levels: HeldLevels {
             red: 0,
             green: 0,
             blue: 0,

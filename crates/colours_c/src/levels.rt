@@ -1,7 +1,7 @@
 // An output as three levels of C, and as `colours` has it.
 ghost use mathlib.Core.Path.{_≡_};
 ghost use Rattle.colours_c.specs.Levels.{numberOf, handedOutput, blackOrWhite, makes, takenOutput};
-use crate::Triple;
+use crate::HeldLevels;
 use colours::Level;
 use colours::Output;
 
@@ -18,14 +18,14 @@ fn number_of(level: Level) -> u8
     }
 }
 
-pub(crate) fn hand_output(output: Output) -> Triple
+pub(crate) fn hand_output(output: Output) -> HeldLevels
     ensures { λ r. ⌜ r ≡ handedOutput output ⌝ }
 {
     let levels = output.levels();
     let red = levels.red;
     let green = levels.green;
     let blue = levels.blue;
-    Triple {
+    HeldLevels {
         red: number_of(red),
         green: number_of(green),
         blue: number_of(blue),
@@ -40,7 +40,7 @@ fn black_or_white(level: u8) -> bool
 }
 
 // Whether a pixel can make these three together: sync or blank, an overlay, or a colour.
-pub(crate) fn makes(levels: Triple) -> bool
+pub(crate) fn makes(levels: HeldLevels) -> bool
     ensures { λ r. ⌜ r ≡ makes levels ⌝ }
 {
     let red = levels.red;
@@ -53,7 +53,7 @@ pub(crate) fn makes(levels: Triple) -> bool
 }
 
 // The output that such three levels are: green tells which.
-pub(crate) fn take_output(levels: Triple) -> Output
+pub(crate) fn take_output(levels: HeldLevels) -> Output
     ensures { λ r. ⌜ r ≡ takenOutput levels ⌝ }
 {
     let green = levels.green;

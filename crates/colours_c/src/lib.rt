@@ -25,7 +25,7 @@ use state::take_inputs;
 
 // Three levels: a step 0 to 15, or 16 sync, 17 blank, 18 reference black, 19 peak white.
 #[repr(C)]
-pub struct Triple {
+pub struct HeldLevels {
     pub red: u8,
     pub green: u8,
     pub blue: u8,
@@ -36,14 +36,14 @@ pub struct Triple {
 pub struct Held {
     pub waiting: u8,
     pub low: u8,
-    pub first: Triple,
-    pub second: Triple,
-    pub third: Triple,
+    pub first: HeldLevels,
+    pub second: HeldLevels,
+    pub third: HeldLevels,
 }
 
 // The inputs of a pixel as C has them, where the syncs are `horizontal_sync` and `vertical_sync` and the guns `red_on` and so on.
 #[repr(C)]
-pub struct Pins {
+pub struct HeldInputs {
     pub address: u32,
     pub horizontal: u8,
     pub vertical: u8,
@@ -66,7 +66,7 @@ pub struct Coloured {
 #[repr(C)]
 pub struct Emitted {
     pub state: Held,
-    pub levels: Triple,
+    pub levels: HeldLevels,
     pub number: u32,
 }
 
@@ -147,7 +147,7 @@ pub extern "C" fn linkshoar_colours_read_high(table: &[u16], address: u32) -> By
 
 // One pixel clock: inputs enter, and the levels of those that entered three clocks before come out.
 #[no_mangle]
-pub extern "C" fn linkshoar_colours_pixel(state: Held, table: &[u16], inputs: Pins) -> Emitted
+pub extern "C" fn linkshoar_colours_pixel(state: Held, table: &[u16], inputs: HeldInputs) -> Emitted
     ensures { λ r. ⌜ r ≡ heldPixel state (now (table .entry)) inputs ⌝ }
 {
     if lawful(state) {

@@ -2,7 +2,7 @@
 ghost use mathlib.Core.Path.{_≡_};
 ghost use Rattle.colours_c.specs.State.{lawful, takenWaiting, taken, handed, takenInputs};
 use crate::Held;
-use crate::Pins;
+use crate::HeldInputs;
 use crate::levels::hand_output;
 use crate::levels::makes;
 use crate::levels::take_output;
@@ -57,7 +57,7 @@ pub(crate) fn hand(state: Colours) -> Held
     }
 }
 
-pub(crate) fn take_inputs(inputs: Pins) -> Inputs
+pub(crate) fn take_inputs(inputs: HeldInputs) -> Inputs
     ensures { λ r. ⌜ r ≡ takenInputs inputs ⌝ }
 {
     Inputs {

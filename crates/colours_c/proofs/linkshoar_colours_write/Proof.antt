@@ -1,8 +1,9 @@
 -- `colours_c::linkshoar_colours_write` meets its contract. Assumes nothing.
 use borrow.Author.Needs.{needs}
-use mathlib.Core.Path.{sym, _∙_}
+use mathlib.Core.Path.{sym, ap, _∙_}
 use Rattle.colours.specs.Calls.{writeCall}
-use Rattle.colours_c.specs.CallLaws.{write-excluded, write-done}
+use Rattle.colours_c.specs.Calls.{heldExcluded, outcome, handedOutcome, heldWrite}
+use Rattle.colours_c.specs.CallLaws.{taking-excluded, taking-done}
 use Rattle.colours_c.proofs.linkshoar_colours_write.Statement.{statement}
 use Rattle.colours_c.proofs.linkshoar_colours_write.Tie as tie
 
@@ -22,25 +23,28 @@ same-length : tie.Need-same-length
 same-length c = search needs
 
 returns : tie.Need-returns
+unfolding heldWrite
 returns c =
     let w = c .before .before .before in
     let t = w .before .before in
     let l = t .before .before in
     let a = l .before .before .args in
     rw (c .answer .ensures)
-    (write-done (a .state) (sym (l .lawful .ensures) ∙ t .before .if1 .taken) (t .take .ensures)
-    (λ s l. writeCall s l (a .address) (a .value)) (a .table .now) (w .write .ensures))
+    (taking-done (λ s. handedOutcome (writeCall s (a .table .now) (a .address) (a .value))) (outcome (heldExcluded (a .state)) (a .table .now))
+    (a .state) (sym (l .lawful .ensures) ∙ t .before .if1 .taken) (t .take .result) (t .take .ensures) _
+    (ap handedOutcome (w .write .ensures)))
 
 excluded-requires : tie.Need-excluded-requires
 excluded-requires c κs = search needs
 
 returns-2 : tie.Need-returns-2
+unfolding heldWrite
 returns-2 c =
     let l = c .before .before in
     let a = l .before .before .args in
     rw (c .excluded .ensures)
-    (write-excluded (a .state) (sym (l .lawful .ensures) ∙ c .before .if1 .left)
-    (λ s l. writeCall s l (a .address) (a .value)) (a .table .now))
+    (taking-excluded (λ s. handedOutcome (writeCall s (a .table .now) (a .address) (a .value))) (outcome (heldExcluded (a .state)) (a .table .now))
+    (a .state) (sym (l .lawful .ensures) ∙ c .before .if1 .left))
 
 pub linkshoar-colours-write-spec : {M : Type 1} → statement M
 linkshoar-colours-write-spec =

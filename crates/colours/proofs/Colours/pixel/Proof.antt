@@ -1,10 +1,10 @@
 -- `colours::Colours::pixel` meets its contract. Assumes nothing.
 use mathlib.Core.Path.{sym, ap, _∙_}
 use lib.ListN.{length}
-use Rattle.colours.specs.Output.{shown}
+use Rattle.colours.specs.Output.{asks}
 use Rattle.colours.specs.State.{moved}
 use Rattle.colours.specs.Calls.{pixelRefusal}
-use Rattle.colours.specs.CallLaws.{pixel-zero, pixel-refused, pixel-done}
+use Rattle.colours.specs.CallLaws.{pixel-zero, emitted-refused, emitted-done}
 use borrow.Author.Needs.{needs}
 use Rattle.colours.proofs.Colours.pixel.Statement.{statement}
 use Rattle.colours.proofs.Colours.pixel.Tie as tie
@@ -24,7 +24,7 @@ returns c =
     let i = c .before in
     let d = i .before in
     let a = d .before .before .before .args in
-    c .emitted .ensures ∙ pixel-refused (a .self) (a .table .now) (a .inputs) (d .refusal .result) (rw (d .before .table-refusal .ensures) at (d .refusal .ensures)) (i .if1 .taken)
+    c .emitted .ensures ∙ emitted-refused (a .self) (a .table .now) (a .inputs) (d .refusal .result) (rw (d .before .table-refusal .ensures) at (d .refusal .ensures)) (i .if1 .taken)
 
 word-at-requires : tie.Need-word-at-requires
 unfolding pixelRefusal
@@ -35,8 +35,8 @@ word-at-requires c κs =
     let g = pixel-zero (a .self) (length (a .table .now)) (a .inputs .address) (sym n ∙ c .if1 .left) in
     (g .reached .table, g .reached .within)
 
-shown-requires : tie.Need-shown-requires
-shown-requires c κs = search needs
+asks-requires : tie.Need-asks-requires
+asks-requires c κs = search needs
 
 moved-requires : tie.Need-moved-requires
 moved-requires c κs = search needs
@@ -52,9 +52,9 @@ returns-2 c =
     let i = w .before in
     let d = i .before in
     let a = d .before .before .before .args in
-    let asked = m .before .shown .ensures ∙ ap (shown (a .inputs)) (w .word-at .ensures) in
+    let asked = m .before .asks .ensures ∙ ap (asks (a .inputs)) (w .word-at .ensures) in
     c .emitted2 .ensures
-    ∙ pixel-done (a .self) (a .table .now) (a .inputs) (d .refusal .result) (rw (d .before .table-refusal .ensures) at (d .refusal .ensures)) (i .if1 .left)
+    ∙ emitted-done (a .self) (a .table .now) (a .inputs) (d .refusal .result) (rw (d .before .table-refusal .ensures) at (d .refusal .ensures)) (i .if1 .left)
     (m .moved .ensures ∙ ap (moved (a .self)) asked)
 
 pub pixel-spec : {M : Type 1} → statement M
@@ -66,7 +66,7 @@ pixel-spec =
     emitted-requires
     returns
     word-at-requires
-    shown-requires
+    asks-requires
     moved-requires
     emitted-requires-2
     returns-2)

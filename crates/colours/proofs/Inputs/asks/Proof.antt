@@ -1,26 +1,26 @@
--- `colours::Inputs::shown` meets its contract. Assumes nothing.
+-- `colours::Inputs::asks` meets its contract. Assumes nothing.
 use mathlib.Core.Path.{sym, ap, _∙_}
 use Rattle.colours.specs.Output.{colourOf}
-use Rattle.colours.specs.OutputLaws.{shown-sync, shown-blank, shown-overlay, shown-colour}
+use Rattle.colours.specs.OutputLaws.{asks-sync, asks-blank, asks-overlay, asks-colour}
 use borrow.Author.Needs.{needs}
-use Rattle.colours.proofs.Inputs.shown.Statement.{statement}
-use Rattle.colours.proofs.Inputs.shown.Tie as tie
+use Rattle.colours.proofs.Inputs.asks.Statement.{statement}
+use Rattle.colours.proofs.Inputs.asks.Tie as tie
 
 returns : tie.Need-returns
-returns c = let a = c .before .args in sym (shown-sync (a .self) (a .word) (c .if1 .taken))
+returns c = let a = c .before .args in sym (asks-sync (a .self) (a .word) (c .if1 .taken))
 
 returns-2 : tie.Need-returns-2
 returns-2 c =
     let e = c .before in
     let a = e .before .args in
-    sym (shown-blank (a .self) (a .word) (e .if1 .left) (c .if2 .taken))
+    sym (asks-blank (a .self) (a .word) (e .if1 .left) (c .if2 .taken))
 
 returns-3 : tie.Need-returns-3
 returns-3 c =
     let f = c .before in
     let e = f .before in
     let a = e .before .args in
-    sym (shown-overlay (a .self) (a .word) (e .if1 .left) (f .if2 .left) (c .if3 .taken))
+    sym (asks-overlay (a .self) (a .word) (e .if1 .left) (f .if2 .left) (c .if3 .taken))
 
 blinked-requires : tie.Need-blinked-requires
 blinked-requires c κs = search needs
@@ -36,8 +36,8 @@ returns-4 c =
     let a = e .before .args in
     c .colour .ensures
     ∙ ap colourOf (c .before .blinked .ensures)
-    ∙ sym (shown-colour (a .self) (a .word) (e .if1 .left) (f .if2 .left) (g .if3 .left))
+    ∙ sym (asks-colour (a .self) (a .word) (e .if1 .left) (f .if2 .left) (g .if3 .left))
 
-pub shown-spec : {M : Type 1} → statement M
-shown-spec =
+pub asks-spec : {M : Type 1} → statement M
+asks-spec =
     tie.close (tie.spec returns returns-2 returns-3 blinked-requires colour-requires returns-4)

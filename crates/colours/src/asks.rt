@@ -1,6 +1,6 @@
 // What a pixel asks for, and the levels that it is.
 ghost use mathlib.Core.Path.{_≡_};
-ghost use Rattle.colours.specs.Output.{colourOf, blinked, shown, overlaid, levelsOf};
+ghost use Rattle.colours.specs.Output.{colourOf, blinked, asks, overlaid, levelsOf};
 use crate::Inputs;
 use crate::Level;
 use crate::Levels;
@@ -30,8 +30,8 @@ fn colour(bits: u16) -> Output
 
 impl Inputs {
     // What these inputs ask for with the word at their address: sync, blank, overlay, colour, in this order.
-    pub(crate) fn shown(self, word: u16) -> Output
-        ensures { λ r. ⌜ r ≡ shown self word ⌝ }
+    pub(crate) fn asks(self, word: u16) -> Output
+        ensures { λ r. ⌜ r ≡ asks self word ⌝ }
     {
         let horizontal = self.horizontal;
         let vertical = self.vertical;

@@ -1,8 +1,8 @@
--- `colours::shown::colour` meets its contract. Assumes nothing.
+-- `colours::asks::colour` meets its contract. Assumes nothing.
 use mathlib.Core.Path.{refl}
 use borrow.Author.Needs.{needs}
-use Rattle.colours.proofs.shown.colour.Statement.{statement}
-use Rattle.colours.proofs.shown.colour.Tie as tie
+use Rattle.colours.proofs.asks.colour.Statement.{statement}
+use Rattle.colours.proofs.asks.colour.Tie as tie
 
 cast-t3 : tie.Need-cast-t3
 cast-t3 c = search needs

@@ -1,8 +1,8 @@
--- `colours::shown::overlaid` meets its contract. Assumes nothing.
+-- `colours::asks::overlaid` meets its contract. Assumes nothing.
 use mathlib.Core.Path.{sym, ap}
 use Rattle.colours.specs.Output.{overlaid}
-use Rattle.colours.proofs.shown.overlaid.Statement.{statement}
-use Rattle.colours.proofs.shown.overlaid.Tie as tie
+use Rattle.colours.proofs.asks.overlaid.Statement.{statement}
+use Rattle.colours.proofs.asks.overlaid.Tie as tie
 
 returns : tie.Need-returns
 returns c = sym (ap overlaid (c .if1 .taken))

@@ -1,10 +1,10 @@
--- `colours::shown::blinked` meets its contract. Assumes nothing.
+-- `colours::asks::blinked` meets its contract. Assumes nothing.
 use mathlib.Core.Path.{sym}
 use Rattle.words.specs.Bit.{bit}
 use Rattle.colours.specs.OutputLaws.{blink-on, blink-off}
 use borrow.Author.Needs.{needs}
-use Rattle.colours.proofs.shown.blinked.Statement.{statement}
-use Rattle.colours.proofs.shown.blinked.Tie as tie
+use Rattle.colours.proofs.asks.blinked.Statement.{statement}
+use Rattle.colours.proofs.asks.blinked.Tie as tie
 
 sub-result : tie.Need-sub-result
 sub-result c = search needs
