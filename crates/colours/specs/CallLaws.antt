@@ -49,78 +49,100 @@ module _ (words : ℕ) (within waits : Bool) where
 
 -- ---- the number of each call: 1, 3, 21, 22, in this order
 
-module _ (s : Colours) (words address value : ℕ) where
-  pub write-1 : ruled s ≡ false → writeRefusal s words address value ≡ 1
-  unfolding writeRefusal
+module _ (s : Colours) (t : List ℕ) (address value : ℕ) where
+  pub write-1 : ruled s ≡ false → writeCall s t address value .answer .number ≡ 1
+  unfolding writeCall writeRefusal
   write-1 r = rw r
 
   module _ (r : ruled s ≡ true) where
-    pub write-3 : words ≢ 64 → writeRefusal s words address value ≡ 3
-    unfolding writeRefusal
-    write-3 w = rw r (table-3 words (leb address 63 && leb value 8191) true w)
+    pub write-3 : length t ≢ 64 → writeCall s t address value .answer .number ≡ 3
+    unfolding writeCall writeRefusal
+    write-3 w = rw r (table-3 (length t) (leb address 63 && leb value 8191) true w)
 
-    pub write-21 : words ≡ 64 → (63 < address) ⊎ (8191 < value) → writeRefusal s words address value ≡ 21
-    unfolding writeRefusal
-    write-21 w (inl h) = rw r (table-21 words (leb address 63 && leb value 8191) true w (rw (lt-leb address 63 h)))
+    pub write-21 : length t ≡ 64 → (63 < address) ⊎ (8191 < value) → writeCall s t address value .answer .number ≡ 21
+    unfolding writeCall writeRefusal
+    write-21 w (inl h) = rw r (table-21 (length t) (leb address 63 && leb value 8191) true w (rw (lt-leb address 63 h)))
     write-21 w (inr h) =
-        rw r (table-21 words (leb address 63 && leb value 8191) true w (rw (lt-leb value 8191 h) (and-false (leb address 63))))
+        rw r (table-21 (length t) (leb address 63 && leb value 8191) true w (rw (lt-leb value 8191 h) (and-false (leb address 63))))
 
-    pub write-not-1 : writeRefusal s words address value ≢ 1
-    unfolding writeRefusal
-    write-not-1 = rw r (table-not-1 words (leb address 63 && leb value 8191) true)
+    pub write-not-1 : writeCall s t address value .answer .number ≢ 1
+    unfolding writeCall writeRefusal
+    write-not-1 = rw r (table-not-1 (length t) (leb address 63 && leb value 8191) true)
 
-module _ (s : Colours) where
-  pub low-1 : ruled s ≡ false → lowRefusal s ≡ 1
-  unfolding lowRefusal
+low-accepted : (s : Colours) → ruled s ≡ true → lowRefusal s ≡ 0
+unfolding lowRefusal
+low-accepted s r = rw r
+
+module _ (s : Colours) (low : ℕ) where
+  pub low-1 : ruled s ≡ false → writeLowCall s low .number ≡ 1
+  unfolding writeLowCall lowRefusal
   low-1 r = rw r
 
-  pub low-accepted : ruled s ≡ true → lowRefusal s ≡ 0
-  unfolding lowRefusal
-  low-accepted r = rw r
+  pub low-0 : ruled s ≡ true → writeLowCall s low .number ≡ 0
+  unfolding writeLowCall
+  low-0 r = low-accepted s r
 
-module _ (s : Colours) (words address : ℕ) where
-  pub high-1 : ruled s ≡ false → highRefusal s words address ≡ 1
-  unfolding highRefusal
+module _ (s : Colours) (t : List ℕ) (address high : ℕ) where
+  pub high-1 : ruled s ≡ false → writeHighCall s t address high .answer .number ≡ 1
+  unfolding writeHighCall highRefusal
   high-1 r = rw r
 
-  pub pixel-1 : ruled s ≡ false → pixelRefusal s words address ≡ 1
-  unfolding pixelRefusal
+  module _ (r : ruled s ≡ true) where
+    pub high-3 : length t ≢ 64 → writeHighCall s t address high .answer .number ≡ 3
+    unfolding writeHighCall highRefusal
+    high-3 w = rw r (table-3 (length t) (leb address 63) (waits (s .waiting)) w)
+
+    -- whether a low part waits or not
+    pub high-21 : length t ≡ 64 → 63 < address → writeHighCall s t address high .answer .number ≡ 21
+    unfolding writeHighCall highRefusal
+    high-21 w h = rw r (table-21 (length t) (leb address 63) (waits (s .waiting)) w (lt-leb address 63 h))
+
+    pub high-22 : length t ≡ 64 → address ≤ 63 → waits (s .waiting) ≡ false → writeHighCall s t address high .answer .number ≡ 22
+    unfolding writeHighCall highRefusal
+    high-22 w h l = rw (r, w, le-leb address 63 h, l)
+
+    pub high-not-1 : writeHighCall s t address high .answer .number ≢ 1
+    unfolding writeHighCall highRefusal
+    high-not-1 = rw r (table-not-1 (length t) (leb address 63) (waits (s .waiting)))
+
+module _ (t : List ℕ) (address : ℕ) where
+  read-number-3 : length t ≢ 64 → readRefusal (length t) address ≡ 3
+  unfolding readRefusal
+  read-number-3 w = table-3 (length t) (leb address 63) true w
+
+  read-number-21 : length t ≡ 64 → 63 < address → readRefusal (length t) address ≡ 21
+  unfolding readRefusal
+  read-number-21 w h = table-21 (length t) (leb address 63) true w (lt-leb address 63 h)
+
+  -- of all three reads
+  pub read-3 : length t ≢ 64
+      → (readCall t address .number ≡ 3) × (readLowCall t address .number ≡ 3) × (readHighCall t address .number ≡ 3)
+  unfolding readCall readLowCall readHighCall
+  read-3 w = (read-number-3 w, read-number-3 w, read-number-3 w)
+
+  pub read-21 : length t ≡ 64 → 63 < address
+      → (readCall t address .number ≡ 21) × (readLowCall t address .number ≡ 21) × (readHighCall t address .number ≡ 21)
+  unfolding readCall readLowCall readHighCall
+  read-21 w h = (read-number-21 w h, read-number-21 w h, read-number-21 w h)
+
+module _ (s : Colours) (t : List ℕ) (i : Inputs) where
+  pub pixel-1 : ruled s ≡ false → pixelCall s t i .number ≡ 1
+  unfolding pixelCall pixelRefusal
   pixel-1 r = rw r
 
   module _ (r : ruled s ≡ true) where
-    pub high-3 : words ≢ 64 → highRefusal s words address ≡ 3
-    unfolding highRefusal
-    high-3 w = rw r (table-3 words (leb address 63) (waits (s .waiting)) w)
+    pub pixel-3 : length t ≢ 64 → pixelCall s t i .number ≡ 3
+    unfolding pixelCall pixelRefusal
+    pixel-3 w = rw r (table-3 (length t) (leb (i .address) 63) true w)
 
-    -- whether a low part waits or not
-    pub high-21 : words ≡ 64 → 63 < address → highRefusal s words address ≡ 21
-    unfolding highRefusal
-    high-21 w h = rw r (table-21 words (leb address 63) (waits (s .waiting)) w (lt-leb address 63 h))
+    -- whatever else the inputs are
+    pub pixel-21 : length t ≡ 64 → 63 < i .address → pixelCall s t i .number ≡ 21
+    unfolding pixelCall pixelRefusal
+    pixel-21 w h = rw r (table-21 (length t) (leb (i .address) 63) true w (lt-leb (i .address) 63 h))
 
-    pub high-not-1 : highRefusal s words address ≢ 1
-    unfolding highRefusal
-    high-not-1 = rw r (table-not-1 words (leb address 63) (waits (s .waiting)))
-
-    pub pixel-3 : words ≢ 64 → pixelRefusal s words address ≡ 3
-    unfolding pixelRefusal
-    pixel-3 w = rw r (table-3 words (leb address 63) true w)
-
-    pub pixel-21 : words ≡ 64 → 63 < address → pixelRefusal s words address ≡ 21
-    unfolding pixelRefusal
-    pixel-21 w h = rw r (table-21 words (leb address 63) true w (lt-leb address 63 h))
-
-    pub pixel-not-1 : pixelRefusal s words address ≢ 1
-    unfolding pixelRefusal
-    pixel-not-1 = rw r (table-not-1 words (leb address 63) true)
-
-module _ (words address : ℕ) where
-  pub read-3 : words ≢ 64 → readRefusal words address ≡ 3
-  unfolding readRefusal
-  read-3 w = table-3 words (leb address 63) true w
-
-  pub read-21 : words ≡ 64 → 63 < address → readRefusal words address ≡ 21
-  unfolding readRefusal
-  read-21 w h = table-21 words (leb address 63) true w (lt-leb address 63 h)
+    pub pixel-not-1 : pixelCall s t i .number ≢ 1
+    unfolding pixelCall pixelRefusal
+    pixel-not-1 = rw r (table-not-1 (length t) (leb (i .address) 63) true)
 
 -- ---- which calls are accepted: these, and every one of them
 
@@ -170,11 +192,6 @@ module _ (s : Colours) (words address : ℕ) where
   pub high-accepted : Ready s words address → waits (s .waiting) ≡ true → highRefusal s words address ≡ 0
   unfolding highRefusal
   high-accepted r w = rw (r .rule, r .reached .table, le-leb address 63 (r .reached .within), w)
-
-  -- all else in order, and no low part waiting: 22
-  pub high-22 : Ready s words address → waits (s .waiting) ≡ false → highRefusal s words address ≡ 22
-  unfolding highRefusal
-  high-22 r w = rw (r .rule, r .reached .table, le-leb address 63 (r .reached .within), w)
 
   pub pixel-zero : pixelRefusal s words address ≡ 0 → Ready s words address
   unfolding pixelRefusal

@@ -17,6 +17,23 @@ use Rattle.colours.specs.Calls.{writeRefusal, lowRefusal, highRefusal, p
 
 -- ---- the rule
 
+-- no output on its way has a step over 15
+pub record Ruled (s : Colours) : Type 0 where
+  pub first : stepsOk (s .first) ≡ true
+  pub second : stepsOk (s .second) ≡ true
+  pub third : stepsOk (s .third) ≡ true
+
+pub ruled-parts : (s : Colours) → ruled s ≡ true → Ruled s
+unfolding ruled
+ruled-parts s e =
+    let f = both (stepsOk (s .first) && stepsOk (s .second)) (stepsOk (s .third)) e in
+    let g = both (stepsOk (s .first)) (stepsOk (s .second)) (f .0) in
+    record { first = g .0; second = g .1; third = f .1 }
+
+pub ruled-whole : (s : Colours) → Ruled s → ruled s ≡ true
+unfolding ruled
+ruled-whole s r = rw (r .first, r .second, r .third)
+
 pub fresh-ruled : ruled fresh ≡ true
 unfolding ruled
 fresh-ruled = refl
@@ -28,11 +45,9 @@ waiting-ruled s w = refl
 
 -- what is asked for enters a pipe that the rules allow
 pub moved-ruled : (s : Colours) (t : List ℕ) (i : Inputs) → ruled s ≡ true → ruled (moved s (asksAt t i)) ≡ true
-unfolding ruled
 moved-ruled s t i e =
-    let f = both (stepsOk (s .first) && stepsOk (s .second)) (stepsOk (s .third)) e in
-    let g = both (stepsOk (s .first)) (stepsOk (s .second)) (f .0) in
-    rw (g .1, f .1, asks-ok i (wordAt t (i .address)))
+    let p = ruled-parts s e in
+    ruled-whole (moved s (asksAt t i)) (record { first = p .second; second = p .third; third = asks-ok i (wordAt t (i .address)) })
 
 pub low-ruled : (s : Colours) (low : ℕ) → ruled s ≡ true → ruled (writeLowCall s low .state) ≡ true
 unfolding writeLowCall

@@ -50,9 +50,8 @@ module _ (s : Colours) (t : List ℕ) (address : ℕ) (r : Ready s (length t) ad
   -- a 16-bit write drops the part that waits, a high part uses it up: one high part more is refused, with 22
   none-waiting : (t′ : List ℕ) (address′ high : ℕ) → Reached (length t′) address′
       → writeHighCall (withWaiting s None) t′ address′ high .answer .number ≡ 22
-  unfolding writeHighCall
   none-waiting t′ address′ high g =
-      high-22 (withWaiting s None) (length t′) address′ (record { rule = waiting-ruled s None ∙ r .rule; reached = g }) refl
+      high-22 (withWaiting s None) t′ address′ high (waiting-ruled s None ∙ r .rule) (g .table) (g .within) refl
 
   pub high-after-write : (value : ℕ) → value ≤ 8191 → (t′ : List ℕ) (address′ high : ℕ) → Reached (length t′) address′
       → writeHighCall (writeCall s t address value .answer .state) t′ address′ high .answer .number ≡ 22

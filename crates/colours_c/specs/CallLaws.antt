@@ -5,12 +5,10 @@ use mathlib.Core.Path.{_≡_, refl, sym, ap, _∙_}
 use mathlib.Core.Bool.{Bool, true, false, cond}
 use mathlib.Core.List.{List}
 use mathlib.Core.Logic.{_≢_}
-use native.Mathlib.Omega.{arith}
-use lib.ListN.{length}
 use Rattle.colours.specs.declared.Colours.{Colours}
 use Rattle.colours.specs.State.{ruled}
-use Rattle.colours.specs.Calls.{writeCall, writeLowCall, writeHighCall, pixelCall, lowRefusal}
-use Rattle.colours.specs.CallLaws.{write-not-1, high-not-1, pixel-not-1, low-accepted, write-refused, low-refused, high-refused, pixel-refused}
+use Rattle.colours.specs.Calls.{writeCall, writeLowCall, writeHighCall, pixelCall}
+use Rattle.colours.specs.CallLaws.{write-not-1, high-not-1, pixel-not-1, low-0, write-refused, low-refused, high-refused, pixel-refused}
 use Rattle.colours_c.specs.declared.Held.{Held}
 use Rattle.colours_c.specs.declared.HeldInputs.{HeldInputs}
 use Rattle.colours_c.specs.declared.Coloured.{Coloured}
@@ -62,20 +60,20 @@ module _ (h : Held) (t : List ℕ) where
 
   module _ (e : lawful h ≡ true) where
     pub held-write-not-1 : (address value : ℕ) → heldWrite h t address value .answer .number ≢ 1
-    unfolding heldWrite writeCall
-    held-write-not-1 address value = rw e (write-not-1 (taken h) (length t) address value (taken-ruled h e))
+    unfolding heldWrite
+    held-write-not-1 address value = rw e (write-not-1 (taken h) t address value (taken-ruled h e))
 
     pub held-high-not-1 : (address high : ℕ) → heldHigh h t address high .answer .number ≢ 1
-    unfolding heldHigh writeHighCall
-    held-high-not-1 address high = rw e (high-not-1 (taken h) (length t) address (taken-ruled h e))
+    unfolding heldHigh
+    held-high-not-1 address high = rw e (high-not-1 (taken h) t address high (taken-ruled h e))
 
-    pub held-low-not-1 : (low : ℕ) → heldLow h low .number ≢ 1
-    unfolding heldLow writeLowCall
-    held-low-not-1 low z = let n : lowRefusal (taken h) ≡ 1 = rw e at z in absurd (omega (arith, n, low-accepted (taken h) (taken-ruled h e)))
+    pub held-low-0 : (low : ℕ) → heldLow h low .number ≡ 0
+    unfolding heldLow
+    held-low-0 low = rw e (low-0 (taken h) low (taken-ruled h e))
 
     pub held-pixel-not-1 : (p : HeldInputs) → heldPixel h t p .number ≢ 1
-    unfolding heldPixel pixelCall takenInputs
-    held-pixel-not-1 p = rw e (pixel-not-1 (taken h) (length t) (p .address) (taken-ruled h e))
+    unfolding heldPixel
+    held-pixel-not-1 p = rw e (pixel-not-1 (taken h) t (takenInputs p) (taken-ruled h e))
 
 -- ---- a refusal hands everything back as it came, and answers zeros
 

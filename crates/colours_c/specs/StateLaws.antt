@@ -10,7 +10,8 @@ use Rattle.words.specs.Bit.{digit}
 use Rattle.colours.specs.declared.Colours.{Colours}
 use Rattle.colours.specs.declared.Waiting.{Waiting}
 use Rattle.colours.specs.declared.Waiting.the-variants.{None, Low}
-use Rattle.colours.specs.State.{waits, lowWaiting, stepsOk, ruled}
+use Rattle.colours.specs.State.{waits, lowWaiting, ruled}
+use Rattle.colours.specs.StateLaws.{ruled-parts, ruled-whole}
 use Rattle.colours_c.specs.declared.Held.{Held}
 use Rattle.colours_c.specs.Levels.{makes}
 use Rattle.colours_c.specs.LevelLaws.{handed-taken-output, taken-steps, handed-makes, taken-handed-output}
@@ -65,22 +66,15 @@ handed-taken h e =
 
 -- and is a state that the rules allow, so that 1 is `lawful`'s alone
 pub taken-ruled : (h : Held) → lawful h ≡ true → ruled (taken h) ≡ true
-unfolding taken ruled
+unfolding taken
 taken-ruled h e =
     let p = lawful-parts h e in
-    rw (taken-steps (h .first) (p .first), taken-steps (h .second) (p .second), taken-steps (h .third) (p .third))
-
-record Ruled (s : Colours) : Type 0 where
-  first : stepsOk (s .first) ≡ true
-  second : stepsOk (s .second) ≡ true
-  third : stepsOk (s .third) ≡ true
-
-ruled-parts : (s : Colours) → ruled s ≡ true → Ruled s
-unfolding ruled
-ruled-parts s e =
-    let a = both (stepsOk (s .first) && stepsOk (s .second)) (stepsOk (s .third)) e in
-    let b = both (stepsOk (s .first)) (stepsOk (s .second)) (a .0) in
-    record { first = b .0; second = b .1; third = a .1 }
+    ruled-whole (taken h)
+    (record {
+      first = taken-steps (h .first) (p .first);
+      second = taken-steps (h .second) (p .second);
+      third = taken-steps (h .third) (p .third);
+    })
 
 pub taken-handed : (s : Colours) → ruled s ≡ true → taken (handed s) ≡ s
 unfolding taken handed
