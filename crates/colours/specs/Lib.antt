@@ -16,6 +16,8 @@ pub mod FunctionTable
 pub mod OutputLaws
 -- every row of the function table holds, and every pixel fits one
 pub mod FunctionTableLaws
+-- the number of each call
+pub mod NumberLaws
 -- what is accepted; a refusal changes nothing
 pub mod CallLaws
 -- the rule is kept; a write moves nothing in the pipe, a pixel leaves the low part
@@ -24,8 +26,10 @@ pub mod StateLaws
 pub mod SessionLaws
 -- the three clocks' delay
 pub mod Pipe
--- the two ways to write agree; what is read back
+-- the two ways to write agree
 pub mod WriteLaws
+-- what is read back
+pub mod ReadLaws
 -- pixels between a low part and its high part
 pub mod Apart
 -- a small session as a table

@@ -8,7 +8,8 @@ use mathlib.Core.Logic.{_≢_}
 use Rattle.colours.specs.declared.Colours.{Colours}
 use Rattle.colours.specs.State.{ruled}
 use Rattle.colours.specs.Calls.{writeCall, writeLowCall, writeHighCall, pixelCall}
-use Rattle.colours.specs.CallLaws.{write-not-1, high-not-1, pixel-not-1, low-0, write-refused, low-refused, high-refused, pixel-refused}
+use Rattle.colours.specs.CallLaws.{write-refused, low-refused, high-refused, pixel-refused}
+use Rattle.colours.specs.NumberLaws.{write-not-1, high-not-1, pixel-not-1, low-0}
 use Rattle.colours_c.specs.declared.Held.{Held}
 use Rattle.colours_c.specs.declared.HeldInputs.{HeldInputs}
 use Rattle.colours_c.specs.declared.Coloured.{Coloured}

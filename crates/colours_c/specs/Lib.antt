@@ -12,5 +12,7 @@ pub mod LevelLaws
 pub mod StateLaws
 -- the two ways out of each export; a refusal hands everything back
 pub mod CallLaws
--- calls in a row from C are those below
+-- calls in a row from C
 pub mod Session
+-- they are those below
+pub mod SessionLaws
