@@ -147,8 +147,8 @@ enum {
 enum {
     LINKSHOAR_LEVEL_SYNC = 16,  /* of green alone */
     LINKSHOAR_LEVEL_BLANK = 17,
-    LINKSHOAR_LEVEL_BLACK = 18, /* reference black: an overlay's gun that is off; on the part as dark as step 0 */
-    LINKSHOAR_LEVEL_WHITE = 19  /* peak white: an overlay's gun that is on; on the part brighter than step 15 */
+    LINKSHOAR_LEVEL_BLACK = 18, /* reference black: an overlay's gun that is off; on the chip as dark as step 0 */
+    LINKSHOAR_LEVEL_WHITE = 19  /* peak white: an overlay's gun that is on; on the chip brighter than step 15 */
 };
 
 /* The video RAM's registers. */
@@ -261,7 +261,7 @@ typedef struct {
     uint8_t bank, row, column; /* the address of the word fetched: bits 17 and 16, 15 to 8, 7 to 0 */
 } linkshoar_fetched;
 
-/* What the Am8159's three guns show: each a step, 0 to 15, or one of LINKSHOAR_LEVEL_. */
+/* What the Am8159's three guns, the monitor's red, green and blue, show: each a step, 0 to 15, or one of LINKSHOAR_LEVEL_. */
 typedef struct {
     uint8_t red, green, blue;
 } linkshoar_levels;
@@ -273,8 +273,8 @@ typedef struct {
                                               sync with red and blue at blank; all at blank; each at black or white; each at a step */
 } linkshoar_colours;
 
-/* What a pixel puts in; a yes-or-no byte that is not 0 is yes. A byte takes the low eight bits of what is assigned to it: compare first, as in
- * .blank = (status & 0x100) != 0. */
+/* What a pixel puts in; a yes-or-no byte that is not 0 is yes. C cuts what is assigned to a byte to its low eight bits, so compare with 0 first,
+ * as in inputs.blank = (status & 0x100) != 0. */
 typedef struct {
     uint32_t address; /* of its colour in the table, 0 to 63 */
     uint8_t horizontal_sync, vertical_sync, blank;
@@ -705,7 +705,7 @@ linkshoar_fetched linkshoar_controller_fetch(linkshoar_controller state);
  *   }
  *
  * What a pixel asks for is the first of these that holds:
- *   one sync of the two    green at sync, red and blue at blank
+ *   just one of the syncs  green at sync, red and blue at blank
  *   both syncs, or blank   all at blank
  *   overlay                each gun at white where it is on, at black where it is off
  *   else                   the colour at the address, each gun at its step; where blink is yes and the colour's bit 12 is 1, all twelve
@@ -726,8 +726,9 @@ linkshoar_coloured linkshoar_colours_write_low(linkshoar_colours state, uint8_t 
  * waits afterwards; where the call is refused, one that waited still does. Refused with 1, 3, 21, 22. */
 linkshoar_coloured linkshoar_colours_write_high(linkshoar_colours state, uint16_t *table, size_t words, uint32_t address, uint8_t high);
 
-/* The word at the address, 0 to 63: its thirteen bits; bits 0 to 7; bits 8 to 12 in bits 0 to 4. What is above is 0. A low part that waits is
- * not in the table yet: until its high part comes the word is the old one. Refused with 3, 21. */
+/* Of the word at the address, 0 to 63: linkshoar_colours_read answers its thirteen bits, linkshoar_colours_read_low bits 0 to 7,
+ * linkshoar_colours_read_high bits 8 to 12 in bits 0 to 4; all bits above are 0. A low part that waits is not in the table yet: until its
+ * high part comes the word is the old one. Refused with 3, 21. */
 linkshoar_word linkshoar_colours_read(const uint16_t *table, size_t words, uint32_t address);
 linkshoar_byte linkshoar_colours_read_low(const uint16_t *table, size_t words, uint32_t address);
 linkshoar_byte linkshoar_colours_read_high(const uint16_t *table, size_t words, uint32_t address);
@@ -761,8 +762,8 @@ static inline const char *linkshoar_strerror(uint32_t number)
     case LINKSHOAR_MARKS_LENGTH: return "marks not 64 bytes";
     case LINKSHOAR_PARTITION_OTHER: return "partition length not 16, 32, 64 or 128";
     case LINKSHOAR_MASK_LEFT_BEHIND: return "a mask load with no reset refresh after it in the list";
-    case LINKSHOAR_ADDRESS_OR_DATA_OVER: return "of the Am8159's table: address over 63, or data over 8191";
-    case LINKSHOAR_NO_LOW_PART: return "the Am8159's high part of a word with no low part waiting";
+    case LINKSHOAR_ADDRESS_OR_DATA_OVER: return "Am8159 address over 63, or 16-bit data over 8191";
+    case LINKSHOAR_NO_LOW_PART: return "high part of an Am8159 word with no low part waiting";
     default: return "unknown number";
     }
 }

@@ -289,7 +289,7 @@ static const struct {
     {"LHLLLLXX", X, BLACK},       /* reference black, by overlay */
     {"XXXHLLXX", X, BLANK},       /* blanking */
     {"XXXXHHXX", X, BLANK},
-    {"XXXXHLXX", X, COMPOSITE},   /* composite sync: green only, red and blue are at blanking level */
+    {"XXXXHLXX", X, COMPOSITE},   /* sync shows on green; red and blue have blank level */
     {"XXXXLHXX", X, COMPOSITE}
 };
 

@@ -90,7 +90,7 @@ static void try_fresh(void)
         differ("linkshoar_palette_fresh");
 }
 
-/* Fifteen, and one time in seventeen one of the last seven, which are ten to forty calls each. */
+/* Fifteen, and one time in seventeen one of the last seven, which are some tens of calls each. */
 static void (*const tries[])(void) = {try_fill, try_page, try_read, try_clock, try_panel, try_palette, try_palette, try_lent, try_list,
                                       try_list, try_list, try_pencil, try_pencil, try_marks, try_marks, try_link, try_controller, try_frame,
                                       try_pieces, try_cutting, try_colours, try_pipe};

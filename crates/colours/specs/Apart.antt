@@ -1,4 +1,5 @@
--- Pixels, and refused writes, between the low part and the high part: the low part waits, and the word is stored all the same. Assumes nothing.
+-- Pixels, refused writes and changed tables between the low part and the high part: the low part waits, and the word is stored all the
+-- same. Assumes nothing.
 use mathlib.Core.Path.{_≡_, refl, ap, _∙_}
 use mathlib.Core.Bool.{true}
 use mathlib.Core.List.{List, [], _∷_}
@@ -35,7 +36,7 @@ abbrev pub NoneWritten : List Event → Board → Type 0
 NoneWritten [] b = Unit {0}
 NoneWritten (e ∷ es) b = NotWritten e b × NoneWritten es (after e b)
 
--- pixels, and writes that are refused, leave the low part as it is
+-- pixels, writes that are refused and changed tables leave the low part as it is
 pub low-waits : (es : List Event) (b : Board) → NoneWritten es b → session es b .state .waiting ≡ b .state .waiting
 low-waits [] b n = refl
 low-waits (e ∷ es) b n = low-waits es (after e b) (n .1) ∙ after-waits e b (n .0)

@@ -1,4 +1,4 @@
--- Which calls are accepted; a call is refused and changes nothing, or is done. Assumes nothing.
+-- Which calls are accepted, and the ways out as the code has them: a call is refused and changes nothing, or is done. Assumes nothing.
 use mathlib.Core.Path.{_≡_, refl}
 use mathlib.Core.Bool.{true, _&&_}
 use mathlib.Core.List.{List}

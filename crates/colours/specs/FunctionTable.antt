@@ -1,6 +1,6 @@
 -- Source document 003's Table 2, the function table, row by row and for each gun: H high, L low, X either. Of the sheet's S1 and S0 overlay
 -- is S0 low; S1 is high for every pixel, since an access is no clock. The sheet's rows for colour data 15 and 0, with the steps between,
--- are here one row for all data. Assumes nothing.
+-- are here one row for all data for each setting of blink and bit 12, three rows. Assumes nothing.
 use mathlib.Core.Path.{_≡_}
 use mathlib.Core.Bool.{Bool, true, false}
 use mathlib.Core.List.{List, [], _∷_}
@@ -63,7 +63,7 @@ inverseStep g n = level.Step (15 - n)
 abbrev pub blanking : Gun → ℕ → Level
 blanking g n = level.Blank
 
--- green only: red and blue are at blanking level
+-- sync shows on green; red and blue have blank level
 abbrev pub compositeSync : Gun → ℕ → Level
 compositeSync Red n = level.Blank
 compositeSync Green n = level.Sync

@@ -47,7 +47,7 @@ module _ (blink : Bool) (word : ℕ) where
   blink-inverts p q b h =
       rw (p, q) (bit-not 12 (word % 4096) b (mod-lt word (omega arith)) h ∙ ap not (bit-mod word 12 b h))
 
-  -- one without the other: each is as it was
+  -- unless both are so: each is as it was
   pub blink-alone : (blink && bit word 12) ≡ false → (b : ℕ) → b < 12 → bit (blinked blink word) b ≡ bit word b
   blink-alone p b h = ap (λ (n : ℕ). bit n b) (blink-off p) ∙ bit-mod word 12 b h
 

@@ -102,18 +102,23 @@ module _ (s : Colours) (t : List ℕ) (address : ℕ) where
         leaves-holds (λ (l : List ℕ). getD l other 0 ≡ getD t other 0) (highRefusal s (length t) address) t (set t address word)
         refl (getD-set-other t address other word 0 n)
 
--- tables of one length with one word at an address read alike there
-read-alike : (t u : List ℕ) (address : ℕ) → length u ≡ length t → getD u address 0 ≡ getD t address 0 → readCall u address ≡ readCall t address
-unfolding readCall
-read-alike t u address l e = rw (l, e)
+-- all three reads at an address answer the same
+abbrev pub ReadsAlike : List ℕ → List ℕ → ℕ → Type 0
+ReadsAlike t u address =
+    (readCall u address ≡ readCall t address) × (readLowCall u address ≡ readLowCall t address) × (readHighCall u address ≡ readHighCall t address)
+
+-- so they do of tables of one length with one word there
+read-alike : (t u : List ℕ) (address : ℕ) → length u ≡ length t → getD u address 0 ≡ getD t address 0 → ReadsAlike t u address
+unfolding readCall readLowCall readHighCall
+read-alike t u address l e = (rw (l, e), rw (l, e), rw (l, e))
 
 pub write-reads-others : (s : Colours) (t : List ℕ) (address value other : ℕ) → other ≢ address
-    → readCall (writeCall s t address value .table) other ≡ readCall t other
+    → ReadsAlike t (writeCall s t address value .table) other
 write-reads-others s t address value other n =
     read-alike t (writeCall s t address value .table) other (write-length s t address value) (write-others s t address other n value)
 
 pub high-reads-others : (s : Colours) (t : List ℕ) (address high other : ℕ) → other ≢ address
-    → readCall (writeHighCall s t address high .table) other ≡ readCall t other
+    → ReadsAlike t (writeHighCall s t address high .table) other
 high-reads-others s t address high other n =
     read-alike t (writeHighCall s t address high .table) other (high-length s t address high) (high-others s t address other n high)
 

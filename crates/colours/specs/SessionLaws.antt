@@ -22,7 +22,7 @@ pub session-ruled : (es : List Event) (b : Board) → ruled (b .state) ≡ true 
 session-ruled [] b r = r
 session-ruled (e ∷ es) b r = session-ruled es (after e b) (after-ruled e b r)
 
--- ---- every pixel on a table of 64 words, with an address in it, is accepted and comes out
+-- ---- where every pixel finds a table of 64 words and has an address in it, every one is accepted
 
 -- the inputs of the pixels among some events
 abbrev pub inputsOf : List Event → List Inputs

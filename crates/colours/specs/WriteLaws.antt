@@ -31,7 +31,7 @@ ready-waiting : (s : Colours) (words address : ℕ) (w : Waiting) → Ready s wo
 ready-waiting s words address w r = record { rule = waiting-ruled s w ∙ r .rule; reached = r .reached }
 
 module _ (s : Colours) (t : List ℕ) (address : ℕ) (r : Ready s (length t) address) where
-  -- low then high at an address leaves what the 16-bit write of the two together leaves: answer, state and table
+  -- low then high at an allowed address leaves what the 16-bit write of the two together leaves: answer, state and table
   pub parts-agree : (low high : ℕ) → low < 256
       → writeHighCall (writeLowCall s low .state) t address high ≡ writeCall s t address (joined low high)
   parts-agree low high h =

@@ -1,4 +1,4 @@
-// A write of 8 bits in two parts: the low part waits until the high one comes.
+// A word written in two parts, of eight and of five bits: the low part waits until the high one comes.
 ghost use mathlib.Core.Path.{_≡_};
 ghost use Rattle.colours.specs.Table.{joined};
 ghost use Rattle.colours.specs.Calls.{outcome, writeLowCall, writeHighCall};

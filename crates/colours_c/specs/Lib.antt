@@ -10,9 +10,11 @@ pub mod Calls
 pub mod LevelLaws
 -- the state there and back
 pub mod StateLaws
--- the two ways out of each export; a refusal hands everything back
+-- the ways out of an export; 1 exactly where the state is not lawful; a refusal hands everything back
 pub mod CallLaws
 -- calls in a row from C
 pub mod Session
--- they are those below
+-- they leave and answer what those of `colours` do
 pub mod SessionLaws
+-- the delay, as C sees it
+pub mod Delay

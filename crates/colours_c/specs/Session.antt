@@ -26,7 +26,7 @@ pub data HeldEvent : Type 0 where
   HeldWrite : (address value : ℕ) → HeldEvent
   HeldLow : (low : ℕ) → HeldEvent
   HeldHigh : (address high : ℕ) → HeldEvent
-  HeldPixel : (pins : HeldInputs) → HeldEvent
+  HeldPixel : (inputs : HeldInputs) → HeldEvent
   HeldLend : (table : List ℕ) → HeldEvent
 
 abbrev pub heldAfter : HeldEvent → HeldBoard → HeldBoard
@@ -41,7 +41,7 @@ abbrev pub heldSession : List HeldEvent → HeldBoard → HeldBoard
 heldSession [] b = b
 heldSession (e ∷ es) b = heldSession es (heldAfter e b)
 
--- the levels that accepted pixels answer: a call before the others
+-- the levels that accepted pixels answer, one call put in front of the others
 abbrev pub heldPassing : HeldEvent → HeldBoard → List HeldLevels → List HeldLevels
 heldPassing (HeldWrite address value) b others = others
 heldPassing (HeldLow low) b others = others
