@@ -12,6 +12,7 @@ use Rattle.colours.proofs.Colours.write_high as write-high
 use Rattle.colours.proofs.reads.read as read
 use Rattle.colours.proofs.reads.read_low as read-low
 use Rattle.colours.proofs.reads.read_high as read-high
+use Rattle.colours.proofs.asks.ask as ask
 use Rattle.colours.proofs.Colours.pixel as pixel
 
 pub fresh-once : Determines fresh.signature (λ M. fresh.clauses)
@@ -43,6 +44,9 @@ read-low-once = by-result refl (λ κs a v w. refl)
 
 pub read-high-once : Determines read-high.signature (λ M. read-high.clauses)
 read-high-once = by-result refl (λ κs a v w. refl)
+
+pub ask-once : Determines ask.signature (λ M. ask.clauses)
+ask-once = by-result refl (λ κs a v w. refl)
 
 pub pixel-once : Determines pixel.signature (λ M. pixel.clauses)
 pixel-once = by-result refl (λ κs a v w. refl)

@@ -1,21 +1,24 @@
 -- Which calls are accepted, and the ways out as the code has them: a call is refused and changes nothing, or is done. Assumes nothing.
 use mathlib.Core.Path.{_≡_, refl}
-use mathlib.Core.Bool.{true, _&&_}
+use mathlib.Core.Bool.{Bool, true, false, _&&_, cond}
 use mathlib.Core.List.{List}
 use mathlib.Core.Logic.{_≢_}
 use Prim.Native.Nat.{ℕ, _≤_}
-use lib.Dec.{leb}
+use lib.Dec.{eqb, leb}
 use lib.ListN.{length, set}
 use borrow.Author.Tests.{leb-true, ne-eqb, le-leb}
 use Rattle.numbers.specs.Between.{both}
+use Rattle.numbers.specs.Refuse.{leaves}
 use Rattle.numbers.specs.RefuseLaws.{refuse-zero}
 use Rattle.colours.specs.declared.Colours.{Colours}
 use Rattle.colours.specs.declared.Waiting.the-variants.{None, Low}
 use Rattle.colours.specs.declared.Output.the-variants.{Colour}
 use Rattle.colours.specs.declared.Inputs.{Inputs}
+use Rattle.colours.specs.declared.Asked.{Asked}
+use Rattle.colours.specs.declared.Emitted.{Emitted}
 use Rattle.colours.specs.Table.{wordAt, lowOf, highOf, joined}
 use Rattle.colours.specs.State.{withWaiting, moved, waits, lowWaiting, ruled}
-use Rattle.colours.specs.Calls.{tableRefusal, writeRefusal, lowRefusal, highRefusal, readRefusal, pixelRefusal, coloured, outcome, written, writeCall, writeLowCall, writeHighCall, worded, byted, readCall, readLowCall, readHighCall, emitted, asksAt, pixelCall}
+use Rattle.colours.specs.Calls.{tableRefusal, writeRefusal, lowRefusal, highRefusal, readRefusal, pixelRefusal, coloured, outcome, written, writeCall, writeLowCall, writeHighCall, worded, byted, readCall, readLowCall, readHighCall, emitted, asksAt, pixelCall, stateRefusal, askedFor, askCall}
 use Rattle.colours.specs.NumberLaws.{table-0, table-zero, low-accepted}
 
 -- ---- which calls are accepted: these, and every one of them
@@ -86,6 +89,16 @@ module _ (s : Colours) (t : List ℕ) (n k : ℕ) (s′ : Colours) (t′ : List 
 
   pub written-done : {u : Colours} {v : List ℕ} → n ≡ 0 → u ≡ s′ → v ≡ t′ → outcome (coloured 0 u) v ≡ written k s t s′ t′
   written-done z f g = rw (← e, z, f, g)
+
+-- a pixel's number is the state's, and then that of what it asks for
+pub pixel-number : (s : Colours) (t : List ℕ) (i : Inputs) → stateRefusal s (askCall t i .number) ≡ pixelRefusal s (length t) (i .address)
+unfolding askCall readRefusal pixelRefusal
+pixel-number s t i = refl
+
+-- and where nothing is refused that is what enters
+pub ask-zero : (s : Colours) (t : List ℕ) (i : Inputs) → pixelRefusal s (length t) (i .address) ≡ 0 → askCall t i .output ≡ asksAt t i
+unfolding askCall
+ask-zero s t i z = rw (read-accepted (length t) (i .address) (pixel-zero s (length t) (i .address) z .reached))
 
 module _ (s : Colours) (t : List ℕ) (i : Inputs) (n : ℕ) (e : n ≡ pixelRefusal s (length t) (i .address)) where
   pub emitted-refused : n ≢ 0 → emitted n s (Colour 0 0 0) ≡ pixelCall s t i
@@ -164,3 +177,22 @@ module _ (t : List ℕ) (address : ℕ) (r : Reached (length t) address) where
   pub read-high-makes : readHighCall t address ≡ byted 0 (highOf (wordAt t address))
   unfolding readHighCall
   read-high-makes = rw (read-accepted (length t) address r)
+
+-- ---- a pixel, by what it asks for
+
+-- what was asked for enters the pipe, where it was not refused
+abbrev pub emittedBy : Colours → Asked → Emitted
+emittedBy s r = emitted (r .number) (leaves (r .number) s (moved s (r .output))) (leaves (r .number) (Colour 0 0 0) (s .first))
+
+pub pixel-by : (s : Colours) (t : List ℕ) (i : Inputs) → ruled s ≡ true → pixelCall s t i ≡ emittedBy s (askCall t i)
+unfolding pixelCall askCall pixelRefusal readRefusal
+pixel-by s t i r = rw r (go (tableRefusal (length t) (leb (i .address) 63) true))
+  where
+    go : (n : ℕ) → emitted n (leaves n s (moved s (asksAt t i))) (leaves n (Colour 0 0 0) (s .first))
+        ≡ emittedBy s (askedFor n (leaves n (Colour 0 0 0) (asksAt t i)))
+    go n = by (eqb n 0)
+      where
+        by : (b : Bool) → emitted n (cond b (moved s (asksAt t i)) s) (cond b (s .first) (Colour 0 0 0))
+            ≡ emitted n (cond b (moved s (cond b (asksAt t i) (Colour 0 0 0))) s) (cond b (s .first) (Colour 0 0 0))
+        by true = refl
+        by false = refl

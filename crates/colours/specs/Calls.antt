@@ -11,6 +11,7 @@ use Rattle.colours.specs.declared.Waiting.the-variants.{None, Low}
 use Rattle.colours.specs.declared.Output.{Output}
 use Rattle.colours.specs.declared.Output.the-variants.{Colour}
 use Rattle.colours.specs.declared.Inputs.{Inputs}
+use Rattle.colours.specs.declared.Asked.{Asked}
 use Rattle.colours.specs.declared.Coloured.{Coloured}
 use Rattle.colours.specs.declared.Emitted.{Emitted}
 use Rattle.colours.specs.declared.Word.{Word}
@@ -94,12 +95,18 @@ readHighCall t address = let n = readRefusal (length t) address in byted n (leav
 
 -- ---- a pixel
 
-abbrev pub emitted : ℕ → Colours → Output → Emitted
-emitted n s out = record { state = s; output = out; number = n }
-
 -- what the inputs ask for, with the table as they enter
 abbrev pub asksAt : List ℕ → Inputs → Output
 asksAt t i = asks i (wordAt t (i .address))
+
+abbrev pub askedFor : ℕ → Output → Asked
+askedFor n out = record { number = n; output = out }
+
+unfoldable pub askCall : List ℕ → Inputs → Asked
+askCall t i = let n = readRefusal (length t) (i .address) in askedFor n (leaves n (Colour 0 0 0) (asksAt t i))
+
+abbrev pub emitted : ℕ → Colours → Output → Emitted
+emitted n s out = record { state = s; output = out; number = n }
 
 -- the first on its way comes out, and what is asked for enters the pipe
 unfoldable pub pixelCall : Colours → List ℕ → Inputs → Emitted

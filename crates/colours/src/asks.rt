@@ -1,10 +1,14 @@
 // What a pixel asks for, and the levels that it is.
 ghost use mathlib.Core.Path.{_≡_};
+ghost use Rattle.colours.specs.Calls.{askCall};
 ghost use Rattle.colours.specs.Output.{colourOf, blinked, asks, overlaid, levelsOf};
+use crate::Asked;
 use crate::Inputs;
 use crate::Level;
 use crate::Levels;
 use crate::Output;
+use crate::access::table_refusal;
+use crate::access::word_at;
 
 // The twelve colour bits of a word; blink together with the word's blink bit inverts them.
 fn blinked(blink: bool, word: u16) -> u16
@@ -52,6 +56,31 @@ impl Inputs {
             };
         }
         colour(blinked(self.blink, word))
+    }
+}
+
+// What the inputs ask for with the table as it is. A pixel is this and a step of the three outputs, and whoever has those in another form
+// asks here; so 3 and 21 are judged, and no state.
+pub fn ask(table: &[u16], inputs: Inputs) -> Asked
+    ensures { λ r. ⌜ r ≡ askCall (now (table .entry)) inputs ⌝ }
+{
+    let address = inputs.address;
+    let n = table_refusal(table.len(), address <= 63, true);
+    if n != numbers::DONE {
+        return Asked {
+            number: n,
+            output: Output::Colour {
+                red: 0,
+                green: 0,
+                blue: 0,
+            },
+        };
+    }
+    let word = word_at(table, address);
+    let output = inputs.asks(word);
+    Asked {
+        number: numbers::DONE,
+        output,
     }
 }
 

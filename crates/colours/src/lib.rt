@@ -19,7 +19,7 @@ ghost use mathlib.Core.Path.{_≡_};
 ghost use Rattle.colours.specs.State.{fresh};
 
 mod access;
-mod asks;
+pub mod asks;
 mod parts;
 mod pixel;
 pub mod reads;
@@ -77,6 +77,12 @@ pub struct Inputs {
     pub green: bool,
     pub blue: bool,
     pub blink: bool,
+}
+
+// What the inputs of a pixel ask for, and the number given back.
+pub struct Asked {
+    pub number: u32,
+    pub output: Output,
 }
 
 // The state after a write, and the number given back.

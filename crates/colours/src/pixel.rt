@@ -5,17 +5,15 @@ use crate::Colours;
 use crate::Emitted;
 use crate::Inputs;
 use crate::Output;
-use crate::access::table_refusal;
-use crate::access::word_at;
+use crate::asks::ask;
 
 impl Colours {
     // The table is read as the inputs enter. A refused pixel answers zeros and does not move the pipe.
     pub fn pixel(self, table: &[u16], inputs: Inputs) -> Emitted
         ensures { λ r. ⌜ r ≡ pixelCall self (now (table .entry)) inputs ⌝ }
     {
-        let address = inputs.address;
-        let n = table_refusal(table.len(), address <= 63, true);
-        let n = self.refusal(n);
+        let asked = ask(table, inputs);
+        let n = self.refusal(asked.number);
         if n != numbers::DONE {
             return self.emitted(
                 n,
@@ -26,8 +24,8 @@ impl Colours {
                 },
             );
         }
-        let asked = inputs.asks(word_at(table, address));
+        let output = asked.output;
         let first = self.first;
-        self.moved(asked).emitted(numbers::DONE, first)
+        self.moved(output).emitted(numbers::DONE, first)
     }
 }

@@ -1,23 +1,27 @@
 -- The ways out of a call that takes the state from C; 1 is given exactly where the state is not lawful; a refusal hands everything back
 -- as it came. Assumes nothing.
 use Prim.Native.Nat.{ℕ}
-use mathlib.Core.Path.{_≡_, refl, sym, ap, _∙_}
+use mathlib.Core.Path.{_≡_, refl, sym, ap, ap₂, _∙_}
 use mathlib.Core.Bool.{Bool, true, false, cond}
 use mathlib.Core.List.{List}
+use lib.Dec.{eqb}
 use mathlib.Core.Logic.{_≢_}
 use Rattle.colours.specs.declared.Colours.{Colours}
-use Rattle.colours.specs.State.{ruled}
-use Rattle.colours.specs.Calls.{writeCall, writeLowCall, writeHighCall, pixelCall}
-use Rattle.colours.specs.CallLaws.{write-refused, low-refused, high-refused, pixel-refused}
+use Rattle.colours.specs.declared.Asked.{Asked}
+use Rattle.colours.specs.declared.Output.{Output}
+use Rattle.colours.specs.declared.Output.the-variants.{Colour}
+use Rattle.colours.specs.State.{moved, ruled}
+use Rattle.colours.specs.Calls.{emitted, askCall, writeCall, writeLowCall, writeHighCall, pixelCall}
+use Rattle.colours.specs.CallLaws.{write-refused, low-refused, high-refused, pixel-refused, emittedBy, pixel-by}
 use Rattle.colours.specs.NumberLaws.{write-not-1, high-not-1, pixel-not-1, low-0}
 use Rattle.colours_c.specs.declared.Held.{Held}
 use Rattle.colours_c.specs.declared.HeldInputs.{HeldInputs}
+use Rattle.colours_c.specs.declared.HeldLevels.{HeldLevels}
 use Rattle.colours_c.specs.declared.Coloured.{Coloured}
-use Rattle.colours_c.specs.declared.Emitted.{Emitted}
-use Rattle.colours_c.specs.Levels.{heldLevels, handedOutput}
+use Rattle.colours_c.specs.Levels.{handedOutput}
 use Rattle.colours_c.specs.State.{lawful, taken, handed, takenInputs}
 use Rattle.colours_c.specs.StateLaws.{handed-taken, taken-ruled, taken-handed, handed-lawful}
-use Rattle.colours_c.specs.Calls.{taking, handedOn, heldExcluded, heldLow, outcome, handedOutcome, heldWrite, heldHigh, handedOnPixel, pixelExcluded, heldPixel}
+use Rattle.colours_c.specs.Calls.{taking, handedOn, heldExcluded, heldLow, outcome, handedOutcome, heldWrite, heldHigh, handedOnPixel, pixelRefused, heldPixel, heldMoved, movedOn}
 
 -- ---- the ways out
 
@@ -112,14 +116,42 @@ module _ (h : Held) (t : List ℕ) where
       (λ e n. refl)
 
   pub held-pixel-refused : (p : HeldInputs) → heldPixel h t p .number ≢ 0
-      → heldPixel h t p ≡ record { state = h; levels = heldLevels 0 0 0; number = heldPixel h t p .number }
+      → heldPixel h t p ≡ pixelRefused (heldPixel h t p .number) h
   unfolding heldPixel handedOutput
   held-pixel-refused p =
-      taking-either (λ s. handedOnPixel (pixelCall s t (takenInputs p))) (pixelExcluded h)
-      (λ r. r .number ≢ 0 → r ≡ record { state = h; levels = heldLevels 0 0 0; number = r .number }) h
+      taking-either (λ s. handedOnPixel (pixelCall s t (takenInputs p))) (pixelRefused 1 h)
+      (λ r. r .number ≢ 0 → r ≡ pixelRefused (r .number) h) h
       (λ e n. ap handedOnPixel (pixel-refused (taken h) t (takenInputs p) n)
-      ∙ ap (λ (x : Held). zeros x (pixelCall (taken h) t (takenInputs p) .number)) (handed-taken h e))
+      ∙ ap (pixelRefused (pixelCall (taken h) t (takenInputs p) .number)) (handed-taken h e))
       (λ e n. refl)
-    where
-      zeros : Held → ℕ → Emitted
-      zeros x n = record { state = x; levels = heldLevels 0 0 0; number = n }
+
+-- ---- a pixel with no state taken
+
+-- the outputs on their way, taken, moved and handed back, move up as they are
+handed-moved : (h : Held) → lawful h ≡ true → (o : Output) → handed (moved (taken h) o) ≡ heldMoved h (handedOutput o)
+unfolding handed
+handed-moved h e o = ap (λ (x : Held). heldMoved x (handedOutput o)) (handed-taken h e)
+
+handed-first : (h : Held) → lawful h ≡ true → handedOutput (taken h .first) ≡ h .first
+unfolding handed
+handed-first h e = ap (λ (x : Held). x .first) (handed-taken h e)
+
+moved-by : (h : Held) → lawful h ≡ true → (r : Asked) → movedOn h r ≡ handedOnPixel (emittedBy (taken h) r)
+unfolding handedOutput
+moved-by h e r = go (eqb (r .number) 0)
+  where
+    go : (b : Bool)
+        → cond b (record { state = heldMoved h (handedOutput (r .output)); levels = h .first; number = r .number }) (pixelRefused (r .number) h)
+        ≡ handedOnPixel (emitted (r .number) (cond b (moved (taken h) (r .output)) (taken h)) (cond b (taken h .first) (Colour 0 0 0)))
+    go true =
+        ap₂ (λ (x : Held) (l : HeldLevels). record { state = x; levels = l; number = r .number })
+        (sym (handed-moved h e (r .output))) (sym (handed-first h e))
+    go false = ap (pixelRefused (r .number)) (sym (handed-taken h e))
+
+pub moved-on : (h : Held) (t : List ℕ) (p : HeldInputs) → lawful h ≡ true → {r : Asked} → r ≡ askCall t (takenInputs p)
+    → movedOn h r ≡ heldPixel h t p
+unfolding heldPixel
+moved-on h t p e f =
+    ap (movedOn h) f
+    ∙ moved-by h e (askCall t (takenInputs p))
+    ∙ rw e (ap handedOnPixel (sym (pixel-by (taken h) t (takenInputs p) (taken-ruled h e))))

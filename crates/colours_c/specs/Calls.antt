@@ -3,12 +3,15 @@
 use Prim.Native.Nat.{ℕ}
 use mathlib.Core.Bool.{cond}
 use mathlib.Core.List.{List}
+use Rattle.numbers.specs.Refuse.{leaves}
 use Rattle.colours.specs.declared.Colours.{Colours}
 use Rattle.colours.specs.declared.Coloured.{Coloured as Below}
 use Rattle.colours.specs.declared.Emitted.{Emitted as EmittedBelow}
+use Rattle.colours.specs.declared.Asked.{Asked}
 use Rattle.colours.specs.Calls.{Outcome as OutcomeBelow, writeCall, writeLowCall, writeHighCall, pixelCall}
 use Rattle.colours_c.specs.declared.Held.{Held}
 use Rattle.colours_c.specs.declared.HeldInputs.{HeldInputs}
+use Rattle.colours_c.specs.declared.HeldLevels.{HeldLevels}
 use Rattle.colours_c.specs.declared.Coloured.{Coloured}
 use Rattle.colours_c.specs.declared.Emitted.{Emitted}
 use Rattle.colours_c.specs.Levels.{heldLevels, handedOutput}
@@ -53,8 +56,17 @@ heldHigh h t address high = taking h (λ s. handedOutcome (writeHighCall s t add
 abbrev pub handedOnPixel : EmittedBelow → Emitted
 handedOnPixel r = record { state = handed (r .state); levels = handedOutput (r .output); number = r .number }
 
-abbrev pub pixelExcluded : Held → Emitted
-pixelExcluded h = record { state = h; levels = heldLevels 0 0 0; number = 1 }
+abbrev pub pixelRefused : ℕ → Held → Emitted
+pixelRefused n h = record { state = h; levels = heldLevels 0 0 0; number = n }
 
 unfoldable pub heldPixel : Held → List ℕ → HeldInputs → Emitted
-heldPixel h t p = taking h (λ s. handedOnPixel (pixelCall s t (takenInputs p))) (pixelExcluded h)
+heldPixel h t p = taking h (λ s. handedOnPixel (pixelCall s t (takenInputs p))) (pixelRefused 1 h)
+
+-- the same with no state taken (`moved-on`): the outputs on their way move up as they are
+abbrev pub heldMoved : Held → HeldLevels → Held
+heldMoved h entering = record { waiting = h .waiting; low = h .low; first = h .second; second = h .third; third = entering }
+
+abbrev pub movedOn : Held → Asked → Emitted
+movedOn h r =
+    leaves (r .number) (pixelRefused (r .number) h)
+    (record { state = heldMoved h (handedOutput (r .output)); levels = h .first; number = r .number })

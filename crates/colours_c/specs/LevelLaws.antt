@@ -1,18 +1,18 @@
 -- An output there and back: three levels that a pixel can make come back as they were, and so does an output that the rules allow.
 -- Assumes nothing.
-use Prim.Native.Nat.{ℕ, _≤_}
+use Prim.Native.Nat.{ℕ, _≤_, _<_}
 use mathlib.Core.Path.{_≡_, refl}
-use mathlib.Core.Bool.{Bool, true, false, _&&_, _||_}
+use mathlib.Core.Bool.{Bool, true, false, _&&_, cond}
 use native.Mathlib.Omega.{arith}
 use lib.Dec.{eqb, leb}
-use borrow.Author.Tests.{eqb-true, ne-eqb, leb-true, le-leb, lt-leb}
+use borrow.Author.Tests.{eqb-true, eqb-false, ne-eqb, leb-true, leb-false, le-leb, lt-leb}
 use Rattle.numbers.specs.Between.{both, either}
 use Rattle.colours.specs.declared.Output.{Output}
 use Rattle.colours.specs.declared.Output.the-variants.{Sync, Blank, Overlay, Colour}
 use Rattle.colours.specs.Output.{overlaid}
 use Rattle.colours.specs.State.{stepsOk}
 use Rattle.colours_c.specs.declared.HeldLevels.{HeldLevels}
-use Rattle.colours_c.specs.Levels.{numberOf, handedOutput, isBlanked, blackOrWhite, isOverlay, isColour, makes, takenOutput}
+use Rattle.colours_c.specs.Levels.{numberOf, handedOutput, blackOrWhite, makes, takenOutput}
 
 -- ---- three levels, by what they are
 
@@ -22,32 +22,35 @@ pub data Kind (l : HeldLevels) : Type 0 where
   overlay : blackOrWhite (l .red) ≡ true → blackOrWhite (l .green) ≡ true → blackOrWhite (l .blue) ≡ true → Kind l
   steps : l .red ≤ 15 → l .green ≤ 15 → l .blue ≤ 15 → Kind l
 
-blanked-kind : (l : HeldLevels) → isBlanked l ≡ true → Kind l
-blanked-kind l e =
-    let f = both (eqb (l .red) 17 && eqb (l .blue) 17) (eqb (l .green) 16 || eqb (l .green) 17) e in
-    let g = both (eqb (l .red) 17) (eqb (l .blue) 17) (f .0) in
-    let r = eqb-true (l .red) 17 (g .0) in
-    let b = eqb-true (l .blue) 17 (g .1) in
-    either (Kind l) (eqb (l .green) 16) (eqb (l .green) 17) (f .1)
-    (λ h. sync r (eqb-true (l .green) 16 h) b) (λ h. blank r (eqb-true (l .green) 17 h) b)
-
-overlay-kind : (l : HeldLevels) → isOverlay l ≡ true → Kind l
-overlay-kind l e =
-    let f = both (blackOrWhite (l .red) && blackOrWhite (l .green)) (blackOrWhite (l .blue)) e in
-    let g = both (blackOrWhite (l .red)) (blackOrWhite (l .green)) (f .0) in
-    overlay (g .0) (g .1) (f .1)
-
-colour-kind : (l : HeldLevels) → isColour l ≡ true → Kind l
-colour-kind l e =
-    let f = both (leb (l .red) 15 && leb (l .green) 15) (leb (l .blue) 15) e in
-    let g = both (leb (l .red) 15) (leb (l .green) 15) (f .0) in
-    steps (leb-true (l .red) 15 (g .0)) (leb-true (l .green) 15 (g .1)) (leb-true (l .blue) 15 (f .1))
-
 pub kind-of : (l : HeldLevels) → makes l ≡ true → Kind l
 unfolding makes
-kind-of l e =
-    either (Kind l) (isBlanked l || isOverlay l) (isColour l) e
-    (λ p. either (Kind l) (isBlanked l) (isOverlay l) p (blanked-kind l) (overlay-kind l)) (colour-kind l)
+kind-of l e = go (leb (l .green) 15) refl (leb (l .green) 17) refl e
+  where
+    blanked : (l .green ≤ 17) → 15 < l .green → (eqb (l .red) 17 && eqb (l .blue) 17) ≡ true → Kind l
+    blanked h m q =
+        let f = both (eqb (l .red) 17) (eqb (l .blue) 17) q in
+        let r = eqb-true (l .red) 17 (f .0) in
+        let b = eqb-true (l .blue) 17 (f .1) in
+        either-of (eqb (l .green) 16) refl r b
+      where
+        either-of : (t : Bool) → eqb (l .green) 16 ≡ t → l .red ≡ 17 → l .blue ≡ 17 → Kind l
+        either-of true z r b = sync r (eqb-true (l .green) 16 z) b
+        either-of false z r b = let n = eqb-false (l .green) 16 z in blank r (omega arith) b
+
+    go : (p : Bool) → leb (l .green) 15 ≡ p → (q : Bool) → leb (l .green) 17 ≡ q
+        → cond p (leb (l .red) 15 && leb (l .blue) 15)
+        (cond q (eqb (l .red) 17 && eqb (l .blue) 17)
+        ((blackOrWhite (l .red) && blackOrWhite (l .green)) && blackOrWhite (l .blue)))
+        ≡ true
+        → Kind l
+    go true p q z e =
+        let f = both (leb (l .red) 15) (leb (l .blue) 15) e in
+        steps (leb-true (l .red) 15 (f .0)) (leb-true (l .green) 15 p) (leb-true (l .blue) 15 (f .1))
+    go false p true z e = blanked (leb-true (l .green) 17 z) (leb-false (l .green) 15 p) e
+    go false p false z e =
+        let f = both (blackOrWhite (l .red) && blackOrWhite (l .green)) (blackOrWhite (l .blue)) e in
+        let g = both (blackOrWhite (l .red)) (blackOrWhite (l .green)) (f .0) in
+        overlay (g .0) (g .1) (f .1)
 
 -- ---- there and back, from C
 
@@ -124,17 +127,26 @@ gun-high : (p : Bool) → leb 18 (numberOf (overlaid p)) ≡ true
 gun-high true = refl
 gun-high false = refl
 
+gun-over : (p : Bool) (n : ℕ) → n ≤ 17 → leb (numberOf (overlaid p)) n ≡ false
+gun-over true n h = lt-leb 19 n (omega arith)
+gun-over false n h = lt-leb 18 n (omega arith)
+
 pub handed-makes : (o : Output) → stepsOk o ≡ true → makes (handedOutput o) ≡ true
 unfolding makes handedOutput
 handed-makes Sync e = refl
 handed-makes Blank e = refl
 handed-makes (Overlay r g b) e =
-    rw (gun-named r 17 (omega arith), gun-black-or-white r, gun-black-or-white g, gun-black-or-white b)
+    rw (
+      gun-over g 15 (omega arith),
+      gun-over g 17 (omega arith),
+      gun-black-or-white r,
+      gun-black-or-white g,
+      gun-black-or-white b,
+    )
 handed-makes (Colour r g b) e =
     let f = both (leb r 15 && leb g 15) (leb b 15) e in
     let h = both (leb r 15) (leb g 15) (f .0) in
-    let n = leb-true r 15 (h .0) in
-    rw (ne-eqb r 17 (λ z. omega arith), ne-eqb r 18 (λ z. omega arith), ne-eqb r 19 (λ z. omega arith), h .0, h .1, f .1)
+    rw (h .0, h .1, f .1)
 
 pub taken-handed-output : (o : Output) → stepsOk o ≡ true → takenOutput (handedOutput o) ≡ o
 unfolding takenOutput handedOutput

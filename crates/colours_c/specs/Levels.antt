@@ -25,21 +25,15 @@ handedOutput o = let l = levelsOf o in heldLevels (numberOf (l .red)) (numberOf 
 
 -- ---- three levels that a pixel can make together
 
--- green at sync or blank level, and the others at blank level
-abbrev pub isBlanked : HeldLevels → Bool
-isBlanked l = (eqb (l .red) 17 && eqb (l .blue) 17) && (eqb (l .green) 16 || eqb (l .green) 17)
-
 abbrev pub blackOrWhite : ℕ → Bool
 blackOrWhite n = eqb n 18 || eqb n 19
 
-abbrev pub isOverlay : HeldLevels → Bool
-isOverlay l = (blackOrWhite (l .red) && blackOrWhite (l .green)) && blackOrWhite (l .blue)
-
-abbrev pub isColour : HeldLevels → Bool
-isColour l = (leb (l .red) 15 && leb (l .green) 15) && leb (l .blue) 15
-
+-- green tells: with a step the others are steps too; with sync or blank they are at blank level; else all three are black or white
 unfoldable pub makes : HeldLevels → Bool
-makes l = (isBlanked l || isOverlay l) || isColour l
+makes l =
+    cond (leb (l .green) 15) (leb (l .red) 15 && leb (l .blue) 15)
+    (cond (leb (l .green) 17) (eqb (l .red) 17 && eqb (l .blue) 17)
+    ((blackOrWhite (l .red) && blackOrWhite (l .green)) && blackOrWhite (l .blue)))
 
 -- which output they are: green tells
 unfoldable pub takenOutput : HeldLevels → Output

@@ -14,7 +14,7 @@ use Rattle.colours_c.specs.declared.HeldLevels.{HeldLevels}
 use Rattle.colours_c.specs.declared.Emitted.{Emitted}
 use Rattle.colours_c.specs.Levels.{handedOutput}
 use Rattle.colours_c.specs.State.{lawful, handed, takenInputs}
-use Rattle.colours_c.specs.Calls.{handedOn, heldExcluded, heldLow, Outcome, outcome, handedOutcome, heldWrite, heldHigh, handedOnPixel, pixelExcluded, heldPixel}
+use Rattle.colours_c.specs.Calls.{handedOn, heldExcluded, heldLow, Outcome, outcome, handedOutcome, heldWrite, heldHigh, handedOnPixel, pixelRefused, heldPixel}
 use Rattle.colours_c.specs.CallLaws.{taking-handed}
 use Rattle.colours_c.specs.Session.{HeldBoard, heldBoard, handedBoard, HeldEvent, HeldWrite, HeldLow, HeldHigh, HeldPixel, HeldLend, heldAfter, heldSession, heldPassing, heldCame, below}
 
@@ -37,7 +37,7 @@ module _ (s : Colours) (t : List ℕ) (r : ruled s ≡ true) where
 
   pub held-pixel : (p : HeldInputs) → heldPixel (handed s) t p ≡ handedOnPixel (pixelCall s t (takenInputs p))
   unfolding heldPixel
-  held-pixel p = taking-handed (λ x. handedOnPixel (pixelCall x t (takenInputs p))) (pixelExcluded (handed s)) s r
+  held-pixel p = taking-handed (λ x. handedOnPixel (pixelCall x t (takenInputs p))) (pixelRefused 1 (handed s)) s r
 
 -- ---- calls in a row
 

@@ -39,17 +39,20 @@ fn black_or_white(level: u8) -> bool
     (level == 18) | (level == 19)
 }
 
-// Whether a pixel can make these three together: sync or blank, an overlay, or a colour.
+// Whether a pixel can make these three together. Green tells which: a colour, sync or blank, or an overlay.
 pub(crate) fn makes(levels: HeldLevels) -> bool
     ensures { λ r. ⌜ r ≡ makes levels ⌝ }
 {
     let red = levels.red;
     let green = levels.green;
     let blue = levels.blue;
-    let blanked = (red == 17) & (blue == 17) & ((green == 16) | (green == 17));
-    let overlaid = black_or_white(red) & black_or_white(green) & black_or_white(blue);
-    let coloured = (red <= 15) & (green <= 15) & (blue <= 15);
-    blanked | overlaid | coloured
+    if green <= 15 {
+        return (red <= 15) & (blue <= 15);
+    }
+    if green <= 17 {
+        return (red == 17) & (blue == 17);
+    }
+    black_or_white(red) & black_or_white(green) & black_or_white(blue)
 }
 
 // The output that such three levels are: green tells which.

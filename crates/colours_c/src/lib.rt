@@ -14,7 +14,7 @@ mod state;
 use answers::answer;
 use answers::answer_pixel;
 use answers::excluded;
-use answers::excluded_pixel;
+use answers::refused_pixel;
 use colours::Byte;
 use colours::Colours;
 use colours::Word;
@@ -151,7 +151,7 @@ pub extern "C" fn linkshoar_colours_pixel(state: Held, table: &[u16], inputs: He
     ensures { λ r. ⌜ r ≡ heldPixel state (now (table .entry)) inputs ⌝ }
 {
     if lawful(state) {
-        return answer_pixel(take(state).pixel(table, take_inputs(inputs)));
+        return answer_pixel(state, colours::asks::ask(table, take_inputs(inputs)));
     }
-    excluded_pixel(state)
+    refused_pixel(state, numbers::STATE_EXCLUDED)
 }

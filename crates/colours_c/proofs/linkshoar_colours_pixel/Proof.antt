@@ -1,51 +1,45 @@
 -- `colours_c::linkshoar_colours_pixel` meets its contract. Assumes nothing.
-use borrow.Author.Needs.{needs}
 use mathlib.Core.Path.{sym, ap, _∙_}
-use Rattle.colours.specs.Calls.{pixelCall}
+use Rattle.colours.specs.Calls.{askCall, pixelCall}
 use Rattle.colours_c.specs.State.{takenInputs}
-use Rattle.colours_c.specs.Calls.{handedOnPixel, pixelExcluded, heldPixel}
-use Rattle.colours_c.specs.CallLaws.{taking-excluded, taking-done}
+use Rattle.colours_c.specs.Calls.{handedOnPixel, pixelRefused, heldPixel}
+use Rattle.colours_c.specs.CallLaws.{taking-excluded, moved-on}
+use borrow.Author.Needs.{needs}
 use Rattle.colours_c.proofs.linkshoar_colours_pixel.Statement.{statement}
 use Rattle.colours_c.proofs.linkshoar_colours_pixel.Tie as tie
 
 lawful-requires : tie.Need-lawful-requires
 lawful-requires c κs = search needs
 
-take-requires : tie.Need-take-requires
-take-requires c κs = search needs
-
 take-inputs-requires : tie.Need-take-inputs-requires
 take-inputs-requires c κs = search needs
 
-pixel-requires : tie.Need-pixel-requires
-pixel-requires c κs = search needs
+ask-requires : tie.Need-ask-requires
+ask-requires c κs = search needs
 
 answer-pixel-requires : tie.Need-answer-pixel-requires
 answer-pixel-requires c κs = search needs
 
 returns : tie.Need-returns
-unfolding heldPixel
 returns c =
-    let r = c .before in
-    let i = r .before in
-    let t = i .before in
-    let l = t .before .before in
+    let k = c .before in
+    let i = k .before in
+    let l = i .before .before in
     let a = l .before .before .args in
     c .answer-pixel .ensures
-    ∙ taking-done (λ s. handedOnPixel (pixelCall s (a .table .now) (takenInputs (a .inputs)))) (pixelExcluded (a .state))
-    (a .state) (sym (l .lawful .ensures) ∙ t .before .if1 .taken) (t .take .result) (t .take .ensures) _
-    (ap handedOnPixel (r .pixel .ensures ∙ ap (pixelCall (t .take .result) (a .table .now)) (i .take-inputs .ensures)))
+    ∙ moved-on (a .state) (a .table .now) (a .inputs) (sym (l .lawful .ensures) ∙ i .before .if1 .taken)
+    (k .ask .ensures ∙ ap (askCall (a .table .now)) (i .take-inputs .ensures))
 
-excluded-pixel-requires : tie.Need-excluded-pixel-requires
-excluded-pixel-requires c κs = search needs
+refused-pixel-requires : tie.Need-refused-pixel-requires
+refused-pixel-requires c κs = search needs
 
 returns-2 : tie.Need-returns-2
 unfolding heldPixel
 returns-2 c =
     let l = c .before .before in
     let a = l .before .before .args in
-    c .excluded-pixel .ensures
-    ∙ taking-excluded (λ s. handedOnPixel (pixelCall s (a .table .now) (takenInputs (a .inputs)))) (pixelExcluded (a .state))
+    c .refused-pixel .ensures
+    ∙ taking-excluded (λ s. handedOnPixel (pixelCall s (a .table .now) (takenInputs (a .inputs)))) (pixelRefused 1 (a .state))
     (a .state) (sym (l .lawful .ensures) ∙ c .before .if1 .left)
 
 pub linkshoar-colours-pixel-spec : {M : Type 1} → statement M
@@ -53,10 +47,9 @@ linkshoar-colours-pixel-spec =
     tie.close
     (tie.spec
     lawful-requires
-    take-requires
     take-inputs-requires
-    pixel-requires
+    ask-requires
     answer-pixel-requires
     returns
-    excluded-pixel-requires
+    refused-pixel-requires
     returns-2)
