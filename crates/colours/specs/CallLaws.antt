@@ -1,5 +1,5 @@
 -- Which calls are accepted, and the ways out as the code has them: a call is refused and changes nothing, or is done. Assumes nothing.
-use mathlib.Core.Path.{_≡_, refl}
+use mathlib.Core.Path.{_≡_, refl, ap}
 use mathlib.Core.Bool.{Bool, true, false, _&&_, cond}
 use mathlib.Core.List.{List}
 use mathlib.Core.Logic.{_≢_}
@@ -12,11 +12,12 @@ use Rattle.numbers.specs.Refuse.{leaves}
 use Rattle.numbers.specs.RefuseLaws.{refuse-zero}
 use Rattle.colours.specs.declared.Colours.{Colours}
 use Rattle.colours.specs.declared.Waiting.the-variants.{None, Low}
-use Rattle.colours.specs.declared.Output.the-variants.{Colour}
 use Rattle.colours.specs.declared.Inputs.{Inputs}
 use Rattle.colours.specs.declared.Asked.{Asked}
+use Rattle.colours.specs.declared.Word.{Word}
 use Rattle.colours.specs.declared.Emitted.{Emitted}
 use Rattle.colours.specs.Table.{wordAt, lowOf, highOf, joined}
+use Rattle.colours.specs.Output.{zeros}
 use Rattle.colours.specs.State.{withWaiting, moved, waits, lowWaiting, ruled}
 use Rattle.colours.specs.Calls.{tableRefusal, writeRefusal, lowRefusal, highRefusal, readRefusal, pixelRefusal, coloured, outcome, written, writeCall, writeLowCall, writeHighCall, worded, byted, readCall, readLowCall, readHighCall, emitted, asksAt, pixelCall, stateRefusal, askedFor, askCall}
 use Rattle.colours.specs.NumberLaws.{table-0, table-zero, low-accepted}
@@ -73,13 +74,12 @@ module _ (s : Colours) (words address : ℕ) where
   pub pixel-zero : pixelRefusal s words address ≡ 0 → Ready s words address
   unfolding pixelRefusal
   pixel-zero e =
-      let f = refuse-zero (ruled s) 0 (tableRefusal words (leb address 63) true) e in
-      let g = table-zero words (leb address 63) true (f .1) in
-      record { rule = f .0; reached = record { table = g .0; within = leb-true address 63 (g .1) } }
+      let f = refuse-zero (ruled s) 0 (readRefusal words address) e in
+      record { rule = f .0; reached = read-zero words address (f .1) }
 
   pub pixel-accepted : Ready s words address → pixelRefusal s words address ≡ 0
   unfolding pixelRefusal
-  pixel-accepted r = rw (r .rule, r .reached .table, le-leb address 63 (r .reached .within))
+  pixel-accepted r = rw (r .rule) (read-accepted words address (r .reached))
 
 -- ---- the two ways out, as the code has them: n is its number, k the definition's
 
@@ -92,7 +92,7 @@ module _ (s : Colours) (t : List ℕ) (n k : ℕ) (s′ : Colours) (t′ : List 
 
 -- a pixel's number is the state's, and then that of what it asks for
 pub pixel-number : (s : Colours) (t : List ℕ) (i : Inputs) → stateRefusal s (askCall t i .number) ≡ pixelRefusal s (length t) (i .address)
-unfolding askCall readRefusal pixelRefusal
+unfolding askCall pixelRefusal
 pixel-number s t i = refl
 
 -- and where nothing is refused that is what enters
@@ -101,7 +101,7 @@ unfolding askCall
 ask-zero s t i z = rw (read-accepted (length t) (i .address) (pixel-zero s (length t) (i .address) z .reached))
 
 module _ (s : Colours) (t : List ℕ) (i : Inputs) (n : ℕ) (e : n ≡ pixelRefusal s (length t) (i .address)) where
-  pub emitted-refused : n ≢ 0 → emitted n s (Colour 0 0 0) ≡ pixelCall s t i
+  pub emitted-refused : n ≢ 0 → emitted n s zeros ≡ pixelCall s t i
   unfolding pixelCall
   emitted-refused h = rw (← e, ne-eqb n 0 h)
 
@@ -126,7 +126,7 @@ module _ (s : Colours) (t : List ℕ) where
   unfolding writeHighCall
   high-refused address high h = rw (ne-eqb (highRefusal s (length t) address) 0 h)
 
-  pub pixel-refused : (i : Inputs) → pixelCall s t i .number ≢ 0 → pixelCall s t i ≡ emitted (pixelCall s t i .number) s (Colour 0 0 0)
+  pub pixel-refused : (i : Inputs) → pixelCall s t i .number ≢ 0 → pixelCall s t i ≡ emitted (pixelCall s t i .number) s zeros
   unfolding pixelCall
   pixel-refused i h = rw (ne-eqb (pixelRefusal s (length t) (i .address)) 0 h)
 
@@ -137,11 +137,11 @@ module _ (t : List ℕ) (address : ℕ) where
 
   pub read-low-refused : readLowCall t address .number ≢ 0 → readLowCall t address ≡ byted (readLowCall t address .number) 0
   unfolding readLowCall
-  read-low-refused h = rw (ne-eqb (readRefusal (length t) address) 0 h)
+  read-low-refused h = ap (λ (r : Word). byted (r .number) (lowOf (r .word))) (read-refused h)
 
   pub read-high-refused : readHighCall t address .number ≢ 0 → readHighCall t address ≡ byted (readHighCall t address .number) 0
   unfolding readHighCall
-  read-high-refused h = rw (ne-eqb (readRefusal (length t) address) 0 h)
+  read-high-refused h = ap (λ (r : Word). byted (r .number) (highOf (r .word))) (read-refused h)
 
 -- ---- what is accepted is done
 
@@ -172,27 +172,27 @@ module _ (t : List ℕ) (address : ℕ) (r : Reached (length t) address) where
 
   pub read-low-makes : readLowCall t address ≡ byted 0 (lowOf (wordAt t address))
   unfolding readLowCall
-  read-low-makes = rw (read-accepted (length t) address r)
+  read-low-makes = ap (λ (x : Word). byted (x .number) (lowOf (x .word))) read-makes
 
   pub read-high-makes : readHighCall t address ≡ byted 0 (highOf (wordAt t address))
   unfolding readHighCall
-  read-high-makes = rw (read-accepted (length t) address r)
+  read-high-makes = ap (λ (x : Word). byted (x .number) (highOf (x .word))) read-makes
 
 -- ---- a pixel, by what it asks for
 
 -- what was asked for enters the pipe, where it was not refused
 abbrev pub emittedBy : Colours → Asked → Emitted
-emittedBy s r = emitted (r .number) (leaves (r .number) s (moved s (r .output))) (leaves (r .number) (Colour 0 0 0) (s .first))
+emittedBy s r = emitted (r .number) (leaves (r .number) s (moved s (r .output))) (leaves (r .number) zeros (s .first))
 
 pub pixel-by : (s : Colours) (t : List ℕ) (i : Inputs) → ruled s ≡ true → pixelCall s t i ≡ emittedBy s (askCall t i)
-unfolding pixelCall askCall pixelRefusal readRefusal
-pixel-by s t i r = rw r (go (tableRefusal (length t) (leb (i .address) 63) true))
+unfolding pixelCall askCall pixelRefusal
+pixel-by s t i r = rw r (go (readRefusal (length t) (i .address)))
   where
-    go : (n : ℕ) → emitted n (leaves n s (moved s (asksAt t i))) (leaves n (Colour 0 0 0) (s .first))
-        ≡ emittedBy s (askedFor n (leaves n (Colour 0 0 0) (asksAt t i)))
+    go : (n : ℕ) → emitted n (leaves n s (moved s (asksAt t i))) (leaves n zeros (s .first))
+        ≡ emittedBy s (askedFor n (leaves n zeros (asksAt t i)))
     go n = by (eqb n 0)
       where
-        by : (b : Bool) → emitted n (cond b (moved s (asksAt t i)) s) (cond b (s .first) (Colour 0 0 0))
-            ≡ emitted n (cond b (moved s (cond b (asksAt t i) (Colour 0 0 0))) s) (cond b (s .first) (Colour 0 0 0))
+        by : (b : Bool) → emitted n (cond b (moved s (asksAt t i)) s) (cond b (s .first) zeros)
+            ≡ emitted n (cond b (moved s (cond b (asksAt t i) zeros)) s) (cond b (s .first) zeros)
         by true = refl
         by false = refl

@@ -9,7 +9,6 @@ use Rattle.numbers.specs.Refuse.{refuse, leaves}
 use Rattle.colours.specs.declared.Colours.{Colours}
 use Rattle.colours.specs.declared.Waiting.the-variants.{None, Low}
 use Rattle.colours.specs.declared.Output.{Output}
-use Rattle.colours.specs.declared.Output.the-variants.{Colour}
 use Rattle.colours.specs.declared.Inputs.{Inputs}
 use Rattle.colours.specs.declared.Asked.{Asked}
 use Rattle.colours.specs.declared.Coloured.{Coloured}
@@ -17,7 +16,7 @@ use Rattle.colours.specs.declared.Emitted.{Emitted}
 use Rattle.colours.specs.declared.Word.{Word}
 use Rattle.colours.specs.declared.Byte.{Byte}
 use Rattle.colours.specs.Table.{wordAt, lowOf, highOf, joined}
-use Rattle.colours.specs.Output.{asks}
+use Rattle.colours.specs.Output.{asks, zeros}
 use Rattle.colours.specs.State.{withWaiting, moved, waits, lowWaiting, ruled}
 
 -- ---- what refuses a call
@@ -39,12 +38,12 @@ lowRefusal s = stateRefusal s 0
 unfoldable pub highRefusal : Colours → ℕ → ℕ → ℕ
 highRefusal s words address = stateRefusal s (tableRefusal words (leb address 63) (waits (s .waiting)))
 
+-- of a read, and of what a pixel asks for: its address is judged whether a colour is shown or not
 unfoldable pub readRefusal : ℕ → ℕ → ℕ
 readRefusal words address = tableRefusal words (leb address 63) true
 
--- the address is judged whether the pixel shows a colour or not
 unfoldable pub pixelRefusal : Colours → ℕ → ℕ → ℕ
-pixelRefusal s words address = stateRefusal s (tableRefusal words (leb address 63) true)
+pixelRefusal s words address = stateRefusal s (readRefusal words address)
 
 -- ---- writes
 
@@ -87,11 +86,12 @@ readCall t address = let n = readRefusal (length t) address in worded n (leaves 
 abbrev pub byted : ℕ → ℕ → Byte
 byted n byte = record { number = n; byte = byte }
 
+-- the parts of what a 16-bit read answers, so 0 where it is refused
 unfoldable pub readLowCall : List ℕ → ℕ → Byte
-readLowCall t address = let n = readRefusal (length t) address in byted n (leaves n 0 (lowOf (wordAt t address)))
+readLowCall t address = let r = readCall t address in byted (r .number) (lowOf (r .word))
 
 unfoldable pub readHighCall : List ℕ → ℕ → Byte
-readHighCall t address = let n = readRefusal (length t) address in byted n (leaves n 0 (highOf (wordAt t address)))
+readHighCall t address = let r = readCall t address in byted (r .number) (highOf (r .word))
 
 -- ---- a pixel
 
@@ -103,7 +103,7 @@ abbrev pub askedFor : ℕ → Output → Asked
 askedFor n out = record { number = n; output = out }
 
 unfoldable pub askCall : List ℕ → Inputs → Asked
-askCall t i = let n = readRefusal (length t) (i .address) in askedFor n (leaves n (Colour 0 0 0) (asksAt t i))
+askCall t i = let n = readRefusal (length t) (i .address) in askedFor n (leaves n zeros (asksAt t i))
 
 abbrev pub emitted : ℕ → Colours → Output → Emitted
 emitted n s out = record { state = s; output = out; number = n }
@@ -112,4 +112,4 @@ emitted n s out = record { state = s; output = out; number = n }
 unfoldable pub pixelCall : Colours → List ℕ → Inputs → Emitted
 pixelCall s t i =
     let n = pixelRefusal s (length t) (i .address) in
-    emitted n (leaves n s (moved s (asksAt t i))) (leaves n (Colour 0 0 0) (s .first))
+    emitted n (leaves n s (moved s (asksAt t i))) (leaves n zeros (s .first))

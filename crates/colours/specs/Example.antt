@@ -13,7 +13,7 @@ use Rattle.colours.specs.declared.Output.the-variants.{Sync, Blank, Over
 use Rattle.colours.specs.declared.Inputs.{Inputs}
 use Rattle.colours.specs.Output.{asks}
 use Rattle.colours.specs.State.{fresh, ruled}
-use Rattle.colours.specs.Calls.{writeRefusal, lowRefusal, highRefusal, pixelRefusal, writeCall, writeLowCall, writeHighCall, pixelCall}
+use Rattle.colours.specs.Calls.{writeRefusal, lowRefusal, highRefusal, readRefusal, pixelRefusal, writeCall, writeLowCall, writeHighCall, pixelCall}
 use Rattle.colours.specs.Session.{Board, board, Write, WriteLow, WriteHigh, Pixel, after}
 
 -- a call, the number that it gives, and the low part that waits then; or a pixel, its number and what comes out
@@ -76,7 +76,7 @@ table =
     []
 
 pub session-example : Follows (board fresh (replicate 64 0)) table
-unfolding bit asks ruled writeRefusal lowRefusal highRefusal pixelRefusal writeCall writeLowCall writeHighCall pixelCall
+unfolding bit asks ruled writeRefusal lowRefusal highRefusal readRefusal pixelRefusal writeCall writeLowCall writeHighCall pixelCall
 session-example = (
   refl,
   refl,

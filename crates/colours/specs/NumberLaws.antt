@@ -123,19 +123,19 @@ module _ (t : List ℕ) (address : ℕ) where
 
 module _ (s : Colours) (t : List ℕ) (i : Inputs) where
   pub pixel-1 : ruled s ≡ false → pixelCall s t i .number ≡ 1
-  unfolding pixelCall pixelRefusal
+  unfolding pixelCall pixelRefusal readRefusal
   pixel-1 r = rw r
 
   module _ (r : ruled s ≡ true) where
     pub pixel-3 : length t ≢ 64 → pixelCall s t i .number ≡ 3
-    unfolding pixelCall pixelRefusal
+    unfolding pixelCall pixelRefusal readRefusal
     pixel-3 w = rw r (table-3 (length t) (leb (i .address) 63) true w)
 
     -- whatever else the inputs are
     pub pixel-21 : length t ≡ 64 → 63 < i .address → pixelCall s t i .number ≡ 21
-    unfolding pixelCall pixelRefusal
+    unfolding pixelCall pixelRefusal readRefusal
     pixel-21 w h = rw r (table-21 (length t) (leb (i .address) 63) true w (lt-leb (i .address) 63 h))
 
     pub pixel-not-1 : pixelCall s t i .number ≢ 1
-    unfolding pixelCall pixelRefusal
+    unfolding pixelCall pixelRefusal readRefusal
     pixel-not-1 = rw r (table-not-1 (length t) (leb (i .address) 63) true)

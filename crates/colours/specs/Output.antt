@@ -33,6 +33,10 @@ asks i word =
     (cond (i .overlay) (Overlay (i .red) (i .green) (i .blue))
     (colourOf (blinked (i .blink) word))))
 
+-- what a refused pixel answers: zeros, as C has them
+abbrev pub zeros : Output
+zeros = Colour 0 0 0
+
 -- ---- the level of each gun
 
 abbrev pub levels : Level → Level → Level → Levels

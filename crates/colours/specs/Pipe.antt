@@ -7,8 +7,9 @@ use native.Mathlib.Omega.{arith}
 use lib.Dec.{eqb}
 use lib.ListN.{length, getD, length-map, List·getD-append}
 use Rattle.colours.specs.declared.Output.{Output}
-use Rattle.colours.specs.declared.Output.the-variants.{Blank, Colour}
+use Rattle.colours.specs.declared.Output.the-variants.{Blank}
 use Rattle.colours.specs.declared.Inputs.{Inputs}
+use Rattle.colours.specs.Output.{zeros}
 use Rattle.colours.specs.State.{fresh, moved, pipe}
 use Rattle.colours.specs.Calls.{pixelRefusal, asksAt, pixelCall}
 use Rattle.colours.specs.StateLaws.{write-pipe, low-pipe, high-pipe}
@@ -54,7 +55,7 @@ module _ (b : Board) (ps : List Passed) (behind : List Output) where
       go : (t : Bool)
           → Delayed ps (pipe (cond t (moved (b .state) (asksAt (b .table) i)) (b .state))) behind
           → Delayed
-          (cond t (record { inputs = i; table = b .table; output = cond t (b .state .first) (Colour 0 0 0) } ∷ ps) ps)
+          (cond t (record { inputs = i; table = b .table; output = cond t (b .state .first) zeros } ∷ ps) ps)
           (pipe (b .state)) behind
       go true e = ap (λ (l : List Output). b .state .first ∷ l) e
       go false e = e

@@ -10,7 +10,7 @@ use Rattle.numbers.specs.RefuseLaws.{leaves-holds}
 use Rattle.colours.specs.declared.Colours.{Colours}
 use Rattle.colours.specs.Table.{wordAt, lowOf, highOf, joined}
 use Rattle.colours.specs.State.{lowWaiting}
-use Rattle.colours.specs.Calls.{writeRefusal, highRefusal, readRefusal, Outcome, writeCall, writeLowCall, writeHighCall, worded, byted, readCall, readLowCall, readHighCall}
+use Rattle.colours.specs.Calls.{writeRefusal, highRefusal, Outcome, writeCall, writeLowCall, writeHighCall, worded, byted, readCall, readLowCall, readHighCall}
 use Rattle.colours.specs.CallLaws.{Reached, Ready, write-makes, read-makes, read-low-makes, read-high-makes}
 use Rattle.colours.specs.WriteLaws.{joined-small, parts-agree}
 
@@ -125,5 +125,4 @@ high-reads-others s t address high other n =
 -- zeros above bit 4 of a high read, refused or not
 pub high-read-small : (t : List ℕ) (address : ℕ) → readHighCall t address .byte < 32
 unfolding readHighCall
-high-read-small t address =
-    leaves-holds (λ (n : ℕ). n < 32) (readRefusal (length t) address) 0 (highOf (wordAt t address)) (omega arith) (omega arith)
+high-read-small t address = omega arith

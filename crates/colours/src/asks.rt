@@ -1,7 +1,7 @@
 // What a pixel asks for, and the levels that it is.
 ghost use mathlib.Core.Path.{_≡_};
 ghost use Rattle.colours.specs.Calls.{askCall};
-ghost use Rattle.colours.specs.Output.{colourOf, blinked, asks, overlaid, levelsOf};
+ghost use Rattle.colours.specs.Output.{colourOf, blinked, asks, zeros, overlaid, levelsOf};
 use crate::Asked;
 use crate::Inputs;
 use crate::Level;
@@ -69,11 +69,7 @@ pub fn ask(table: &[u16], inputs: Inputs) -> Asked
     if n != numbers::DONE {
         return Asked {
             number: n,
-            output: Output::Colour {
-                red: 0,
-                green: 0,
-                blue: 0,
-            },
+            output: Output::zeros(),
         };
     }
     let word = word_at(table, address);
@@ -95,6 +91,17 @@ fn overlaid(on: bool) -> Level
 }
 
 impl Output {
+    // What a refused pixel answers: zeros, as C has them.
+    pub(crate) fn zeros() -> Output
+        ensures { λ r. ⌜ r ≡ zeros ⌝ }
+    {
+        Output::Colour {
+            red: 0,
+            green: 0,
+            blue: 0,
+        }
+    }
+
     // The level of each gun.
     pub fn levels(self) -> Levels
         ensures { λ r. ⌜ r ≡ levelsOf self ⌝ }

@@ -15,14 +15,7 @@ impl Colours {
         let asked = ask(table, inputs);
         let n = self.refusal(asked.number);
         if n != numbers::DONE {
-            return self.emitted(
-                n,
-                Output::Colour {
-                    red: 0,
-                    green: 0,
-                    blue: 0,
-                },
-            );
+            return self.emitted(n, Output::zeros());
         }
         let output = asked.output;
         let first = self.first;

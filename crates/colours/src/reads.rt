@@ -24,14 +24,10 @@ pub fn read(table: &[u16], address: u32) -> Word
 pub fn read_low(table: &[u16], address: u32) -> Byte
     ensures { λ r. ⌜ r ≡ readLowCall (now (table .entry)) address ⌝ }
 {
-    let n = table_refusal(table.len(), address <= 63, true);
-    if n != numbers::DONE {
-        return Byte { number: n, byte: 0 };
-    }
-    let word = word_at(table, address);
+    let whole = read(table, address);
     Byte {
-        number: numbers::DONE,
-        byte: (word % 256) as u8,
+        number: whole.number,
+        byte: (whole.word % 256) as u8,
     }
 }
 
@@ -39,13 +35,9 @@ pub fn read_low(table: &[u16], address: u32) -> Byte
 pub fn read_high(table: &[u16], address: u32) -> Byte
     ensures { λ r. ⌜ r ≡ readHighCall (now (table .entry)) address ⌝ }
 {
-    let n = table_refusal(table.len(), address <= 63, true);
-    if n != numbers::DONE {
-        return Byte { number: n, byte: 0 };
-    }
-    let word = word_at(table, address);
+    let whole = read(table, address);
     Byte {
-        number: numbers::DONE,
-        byte: (word / 256 % 32) as u8,
+        number: whole.number,
+        byte: (whole.word / 256 % 32) as u8,
     }
 }

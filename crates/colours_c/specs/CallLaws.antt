@@ -9,7 +9,7 @@ use mathlib.Core.Logic.{_≢_}
 use Rattle.colours.specs.declared.Colours.{Colours}
 use Rattle.colours.specs.declared.Asked.{Asked}
 use Rattle.colours.specs.declared.Output.{Output}
-use Rattle.colours.specs.declared.Output.the-variants.{Colour}
+use Rattle.colours.specs.Output.{zeros}
 use Rattle.colours.specs.State.{moved, ruled}
 use Rattle.colours.specs.Calls.{emitted, askCall, writeCall, writeLowCall, writeHighCall, pixelCall}
 use Rattle.colours.specs.CallLaws.{write-refused, low-refused, high-refused, pixel-refused, emittedBy, pixel-by}
@@ -142,7 +142,7 @@ moved-by h e r = go (eqb (r .number) 0)
   where
     go : (b : Bool)
         → cond b (record { state = heldMoved h (handedOutput (r .output)); levels = h .first; number = r .number }) (pixelRefused (r .number) h)
-        ≡ handedOnPixel (emitted (r .number) (cond b (moved (taken h) (r .output)) (taken h)) (cond b (taken h .first) (Colour 0 0 0)))
+        ≡ handedOnPixel (emitted (r .number) (cond b (moved (taken h) (r .output)) (taken h)) (cond b (taken h .first) zeros))
     go true =
         ap₂ (λ (x : Held) (l : HeldLevels). record { state = x; levels = l; number = r .number })
         (sym (handed-moved h e (r .output))) (sym (handed-first h e))

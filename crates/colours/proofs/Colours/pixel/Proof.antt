@@ -2,6 +2,7 @@
 use mathlib.Core.Path.{sym, ap, _∙_}
 use Rattle.colours.specs.declared.Asked.{Asked}
 use Rattle.colours.specs.State.{moved}
+use Rattle.colours.specs.Calls.{emitted}
 use Rattle.colours.specs.CallLaws.{pixel-number, ask-zero, emitted-refused, emitted-done}
 use borrow.Author.Needs.{needs}
 use Rattle.colours.proofs.Colours.pixel.Statement.{statement}
@@ -13,16 +14,21 @@ ask-requires c κs = search needs
 refusal-requires : tie.Need-refusal-requires
 refusal-requires c κs = search needs
 
+zeros-requires : tie.Need-zeros-requires
+zeros-requires c κs = search needs
+
 emitted-requires : tie.Need-emitted-requires
 emitted-requires c κs = search needs
 
 returns : tie.Need-returns
 returns c =
-    let i = c .before in
+    let z = c .before in
+    let i = z .before in
     let d = i .before in
     let a = d .before .before .before .args in
     let n = rw (d .before .ask .ensures) at (d .refusal .ensures) in
     c .emitted .ensures
+    ∙ ap (emitted (d .refusal .result) (a .self)) (z .zeros .ensures)
     ∙ emitted-refused (a .self) (a .table .now) (a .inputs) (d .refusal .result)
     (n ∙ pixel-number (a .self) (a .table .now) (a .inputs)) (i .if1 .taken)
 
@@ -51,6 +57,7 @@ pixel-spec =
     (tie.spec
     ask-requires
     refusal-requires
+    zeros-requires
     emitted-requires
     returns
     moved-requires

@@ -12,9 +12,14 @@ use Rattle.colours.proofs.asks.ask.Tie as tie
 table-refusal-requires : tie.Need-table-refusal-requires
 table-refusal-requires c κs = search needs
 
+zeros-requires : tie.Need-zeros-requires
+zeros-requires c κs = search needs
+
 returns : tie.Need-returns
 unfolding askCall readRefusal
-returns c = refused-is askedFor _ _ _ _ (c .before .table-refusal .ensures) (c .if1 .taken)
+returns c =
+    let i = c .before in
+    rw (c .zeros .ensures) (refused-is askedFor _ _ _ _ (i .before .table-refusal .ensures) (i .if1 .taken))
 
 word-at-requires : tie.Need-word-at-requires
 unfolding readRefusal
@@ -39,4 +44,4 @@ returns-2 c =
 
 pub ask-spec : {M : Type 1} → statement M
 ask-spec =
-    tie.close (tie.spec table-refusal-requires returns word-at-requires asks-requires returns-2)
+    tie.close (tie.spec table-refusal-requires zeros-requires returns word-at-requires asks-requires returns-2)
