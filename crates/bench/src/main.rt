@@ -1,5 +1,7 @@
 // Runs the bench cases of document 01 that are not proved, and more, and prints what came. The starred ones, M-102's and ours for
 // M-107 and M-111 are proved in specs/; ours for M-103 and M-104 are run.
+#![tactic(auto)]
+
 ghost use Rattle.std.specs.Prelude.{◌≡◌, length};
 
 use marks::Found;

@@ -15,38 +15,38 @@ use Rattle.colours.specs.contracts.reads.read_high as read_high
 use Rattle.colours.specs.contracts.asks.ask as ask
 use Rattle.colours.specs.contracts.Colours.pixel as pixel
 
-pub fresh_once : Determines fresh.signature (λ M. fresh.clauses)
+pub fresh_once : Determines fresh.signature (λ M 𝓤. fresh.clauses {M = M} {𝓤 = 𝓤})
 fresh_once = by_result refl (λ κs a v w. refl)
 
-pub levels_once : Determines levels.signature (λ M. levels.clauses)
+pub levels_once : Determines levels.signature (λ M 𝓤. levels.clauses {M = M} {𝓤 = 𝓤})
 levels_once = by_result refl (λ κs a v w. refl)
 
-pub waits_once : Determines waits.signature (λ M. waits.clauses)
+pub waits_once : Determines waits.signature (λ M 𝓤. waits.clauses {M = M} {𝓤 = 𝓤})
 waits_once = by_result refl (λ κs a v w. refl)
 
-pub low_once : Determines low.signature (λ M. low.clauses)
+pub low_once : Determines low.signature (λ M 𝓤. low.clauses {M = M} {𝓤 = 𝓤})
 low_once = by_result refl (λ κs a v w. refl)
 
-pub write_once : Determines write.signature (λ M. write.clauses)
+pub write_once : Determines write.signature (λ M 𝓤. write.clauses {M = M} {𝓤 = 𝓤})
 write_once = by_outcome refl (λ κs a o. (o.answer, (tt, (o.table, (tt, (tt, tt)))))) (λ κs a x. refl)
 
-pub write_low_once : Determines write_low.signature (λ M. write_low.clauses)
+pub write_low_once : Determines write_low.signature (λ M 𝓤. write_low.clauses {M = M} {𝓤 = 𝓤})
 write_low_once = by_result refl (λ κs a v w. refl)
 
-pub write_high_once : Determines write_high.signature (λ M. write_high.clauses)
+pub write_high_once : Determines write_high.signature (λ M 𝓤. write_high.clauses {M = M} {𝓤 = 𝓤})
 write_high_once = by_outcome refl (λ κs a o. (o.answer, (tt, (o.table, (tt, (tt, tt)))))) (λ κs a x. refl)
 
-pub read_once : Determines read.signature (λ M. read.clauses)
+pub read_once : Determines read.signature (λ M 𝓤. read.clauses {M = M} {𝓤 = 𝓤})
 read_once = by_result refl (λ κs a v w. refl)
 
-pub read_low_once : Determines read_low.signature (λ M. read_low.clauses)
+pub read_low_once : Determines read_low.signature (λ M 𝓤. read_low.clauses {M = M} {𝓤 = 𝓤})
 read_low_once = by_result refl (λ κs a v w. refl)
 
-pub read_high_once : Determines read_high.signature (λ M. read_high.clauses)
+pub read_high_once : Determines read_high.signature (λ M 𝓤. read_high.clauses {M = M} {𝓤 = 𝓤})
 read_high_once = by_result refl (λ κs a v w. refl)
 
-pub ask_once : Determines ask.signature (λ M. ask.clauses)
+pub ask_once : Determines ask.signature (λ M 𝓤. ask.clauses {M = M} {𝓤 = 𝓤})
 ask_once = by_result refl (λ κs a v w. refl)
 
-pub pixel_once : Determines pixel.signature (λ M. pixel.clauses)
+pub pixel_once : Determines pixel.signature (λ M 𝓤. pixel.clauses {M = M} {𝓤 = 𝓤})
 pixel_once = by_result refl (λ κs a v w. refl)

@@ -15,6 +15,8 @@
 //   write drops what waits;
 // - an overlay's gun that is off has the voltage of step 0; here reference black is a level of its own;
 // - before the first pixel comes out the outputs are at blank level.
+#![tactic(auto)]
+
 ghost use Rattle.std.specs.Prelude.{◌≡◌};
 ghost use Rattle.colours.specs.State.{fresh};
 
@@ -27,7 +29,7 @@ mod state;
 mod writes;
 
 // The level of one gun: a step of the colour, or a name. Black is reference black, white peak white, brighter than step 15.
-#[derive(Drop)]
+#[derive(Clone, Copy)]
 pub enum Level {
     Step(u8),
     Sync,
@@ -37,7 +39,7 @@ pub enum Level {
 }
 
 // The levels of the three guns.
-#[derive(Drop)]
+#[derive(Clone, Copy)]
 pub struct Levels {
     pub red: Level,
     pub green: Level,
@@ -46,7 +48,7 @@ pub struct Levels {
 
 // What comes out for a pixel: sync, blank, an overlay with each gun on or off, or a colour of three steps. All but a step over 15 is what a
 // pixel can make.
-#[derive(Drop)]
+#[derive(Clone, Copy)]
 pub enum Output {
     Sync,
     Blank,
@@ -55,7 +57,7 @@ pub enum Output {
 }
 
 // The low eight bits of a word, kept until the high five come.
-#[derive(Drop)]
+#[derive(Clone, Copy)]
 pub enum Waiting {
     None,
     Low(u8),
@@ -63,7 +65,7 @@ pub enum Waiting {
 
 // The low part that waits, and the three outputs on their way: `first` is the next to come out. Every field is public: a state with a step
 // over 15, which the rules exclude, can be built, and is refused.
-#[derive(Drop)]
+#[derive(Clone, Copy)]
 pub struct Colours {
     pub waiting: Waiting,
     pub first: Output,
@@ -72,7 +74,7 @@ pub struct Colours {
 }
 
 // The inputs of a pixel: `horizontal` and `vertical` are the two syncs, `red`, `green` and `blue` the guns that an overlay has on.
-#[derive(Drop)]
+#[derive(Clone, Copy)]
 pub struct Inputs {
     pub address: u32,
     pub horizontal: bool,
@@ -86,21 +88,21 @@ pub struct Inputs {
 }
 
 // What the inputs of a pixel ask for, and the number given back.
-#[derive(Drop)]
+#[derive(Clone, Copy)]
 pub struct Asked {
     pub number: u32,
     pub output: Output,
 }
 
 // The state after a write, and the number given back.
-#[derive(Drop)]
+#[derive(Clone, Copy)]
 pub struct Coloured {
     pub state: Colours,
     pub number: u32,
 }
 
 // The state after a pixel, what came out, and the number given back.
-#[derive(Drop)]
+#[derive(Clone, Copy)]
 pub struct Emitted {
     pub state: Colours,
     pub output: Output,
@@ -109,7 +111,7 @@ pub struct Emitted {
 
 // What a 16-bit read answers: the number given back, and the word. In C it is `linkshoar_word`.
 #[repr(C)]
-#[derive(Drop)]
+#[derive(Clone, Copy)]
 pub struct Word {
     pub number: u32,
     pub word: u16,
@@ -117,7 +119,7 @@ pub struct Word {
 
 // What an 8-bit read answers: the number given back, and the part. In C it is `linkshoar_byte`.
 #[repr(C)]
-#[derive(Drop)]
+#[derive(Clone, Copy)]
 pub struct Byte {
     pub number: u32,
     pub byte: u8,

@@ -11,26 +11,26 @@ use Rattle.colours_c.specs.contracts.linkshoar_colours_read_low as read_low
 use Rattle.colours_c.specs.contracts.linkshoar_colours_read_high as read_high
 use Rattle.colours_c.specs.contracts.linkshoar_colours_pixel as pixel
 
-pub fresh_once : Determines fresh.signature (λ M. fresh.clauses)
+pub fresh_once : Determines fresh.signature (λ M 𝓤. fresh.clauses {M = M} {𝓤 = 𝓤})
 fresh_once = by_result refl (λ κs a v w. refl)
 
-pub write_once : Determines write.signature (λ M. write.clauses)
+pub write_once : Determines write.signature (λ M 𝓤. write.clauses {M = M} {𝓤 = 𝓤})
 write_once = by_outcome refl (λ κs a o. (o.answer, (tt, (o.table, (tt, (tt, tt)))))) (λ κs a x. refl)
 
-pub write_low_once : Determines write_low.signature (λ M. write_low.clauses)
+pub write_low_once : Determines write_low.signature (λ M 𝓤. write_low.clauses {M = M} {𝓤 = 𝓤})
 write_low_once = by_result refl (λ κs a v w. refl)
 
-pub write_high_once : Determines write_high.signature (λ M. write_high.clauses)
+pub write_high_once : Determines write_high.signature (λ M 𝓤. write_high.clauses {M = M} {𝓤 = 𝓤})
 write_high_once = by_outcome refl (λ κs a o. (o.answer, (tt, (o.table, (tt, (tt, tt)))))) (λ κs a x. refl)
 
-pub read_once : Determines read.signature (λ M. read.clauses)
+pub read_once : Determines read.signature (λ M 𝓤. read.clauses {M = M} {𝓤 = 𝓤})
 read_once = by_result refl (λ κs a v w. refl)
 
-pub read_low_once : Determines read_low.signature (λ M. read_low.clauses)
+pub read_low_once : Determines read_low.signature (λ M 𝓤. read_low.clauses {M = M} {𝓤 = 𝓤})
 read_low_once = by_result refl (λ κs a v w. refl)
 
-pub read_high_once : Determines read_high.signature (λ M. read_high.clauses)
+pub read_high_once : Determines read_high.signature (λ M 𝓤. read_high.clauses {M = M} {𝓤 = 𝓤})
 read_high_once = by_result refl (λ κs a v w. refl)
 
-pub pixel_once : Determines pixel.signature (λ M. pixel.clauses)
+pub pixel_once : Determines pixel.signature (λ M 𝓤. pixel.clauses {M = M} {𝓤 = 𝓤})
 pixel_once = by_result refl (λ κs a v w. refl)

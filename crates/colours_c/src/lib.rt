@@ -1,6 +1,8 @@
 // The Am8159's calls as a C program makes them. `host/include/linkshoar.h` declares them.
 // The state goes by value, in flat structs; arguments that have a refusal are 32 bits wide and are tested before they are narrowed, and an
 // input byte that is not 0 is yes. Nothing is allocated and nothing is kept.
+#![tactic(auto)]
+
 ghost use Rattle.std.specs.Prelude.{◌≡◌};
 ghost use Rattle.colours.specs.State.{fresh};
 ghost use Rattle.colours.specs.Calls.{read_call, read_low_call, read_high_call};
@@ -17,7 +19,7 @@ use state::{hand, lawful, take, take_inputs};
 
 // Three levels: a step 0 to 15, or 16 sync, 17 blank, 18 reference black, 19 peak white.
 #[repr(C)]
-#[derive(Drop)]
+#[derive(Clone, Copy)]
 pub struct HeldLevels {
     pub red: u8,
     pub green: u8,
@@ -26,7 +28,7 @@ pub struct HeldLevels {
 
 // The state as the C program holds it. waiting: 0 or 1; low: 0 where none waits.
 #[repr(C)]
-#[derive(Drop)]
+#[derive(Clone, Copy)]
 pub struct Held {
     pub waiting: u8,
     pub low: u8,
@@ -37,7 +39,7 @@ pub struct Held {
 
 // The inputs of a pixel as C has them, where the syncs are `horizontal_sync` and `vertical_sync` and the guns `red_on` and so on.
 #[repr(C)]
-#[derive(Drop)]
+#[derive(Clone, Copy)]
 pub struct HeldInputs {
     pub address: u32,
     pub horizontal: u8,
@@ -52,7 +54,7 @@ pub struct HeldInputs {
 
 // The state after a write, and the number given back.
 #[repr(C)]
-#[derive(Drop)]
+#[derive(Clone, Copy)]
 pub struct Coloured {
     pub state: Held,
     pub number: u32,
@@ -60,7 +62,7 @@ pub struct Coloured {
 
 // The state after a pixel, the levels that came out, and the number given back.
 #[repr(C)]
-#[derive(Drop)]
+#[derive(Clone, Copy)]
 pub struct Emitted {
     pub state: Held,
     pub levels: HeldLevels,

@@ -8,6 +8,8 @@
 // two mode bits 5 and 4 are read as 0 to 3 refresh cycles; the Offset is 0 to 255 as in the request, where the sheet says even and at most
 // 126; what is inhibited from vertical sync on is the Offset's addition, and only a change of video from off to on, or a reset by setting
 // the Offset, ends that.
+#![tactic(auto)]
+
 ghost use Rattle.std.specs.Prelude.{◌≡◌};
 ghost use Rattle.controller.specs.State.{fresh, update_of};
 
@@ -17,7 +19,7 @@ mod state;
 mod syncs;
 
 // When the graphics processor has the display memory: in the retrace only, always, or between two words.
-#[derive(Drop)]
+#[derive(Clone, Copy)]
 pub enum Update {
     Retrace,
     Override,
@@ -26,7 +28,7 @@ pub enum Update {
 
 // The registers and counters, by value: `top` is Top of Frame, `refresh` the refresh counter, `cycles` the refresh cycles at each horizontal
 // sync. Every field is public: a state that the rules exclude can be built, and is refused.
-#[derive(Drop)]
+#[derive(Clone, Copy)]
 pub struct Controller {
     pub top: u32,
     pub counter: u32,
@@ -40,14 +42,14 @@ pub struct Controller {
 }
 
 // The state after a call, and the number given back.
-#[derive(Drop)]
+#[derive(Clone, Copy)]
 pub struct Controlled {
     pub state: Controller,
     pub number: u32,
 }
 
 // The state after a fetch, the number given back, and the address of the word fetched.
-#[derive(Drop)]
+#[derive(Clone, Copy)]
 pub struct Fetched {
     pub state: Controller,
     pub number: u32,

@@ -12,29 +12,29 @@ use Rattle.controller_c.specs.contracts.linkshoar_controller_horizontal_sync as 
 use Rattle.controller_c.specs.contracts.linkshoar_controller_vertical_sync as vertical_sync
 use Rattle.controller_c.specs.contracts.linkshoar_controller_fetch as fetch
 
-pub fresh_once : Determines fresh.signature (λ M. fresh.clauses)
+pub fresh_once : Determines fresh.signature (λ M 𝓤. fresh.clauses {M = M} {𝓤 = 𝓤})
 fresh_once = by_result refl (λ κs a v w. refl)
 
-pub set_top_of_frame_once : Determines set_top_of_frame.signature (λ M. set_top_of_frame.clauses)
+pub set_top_of_frame_once : Determines set_top_of_frame.signature (λ M 𝓤. set_top_of_frame.clauses {M = M} {𝓤 = 𝓤})
 set_top_of_frame_once = by_result refl (λ κs a v w. refl)
 
-pub pan_once : Determines pan.signature (λ M. pan.clauses)
+pub pan_once : Determines pan.signature (λ M 𝓤. pan.clauses {M = M} {𝓤 = 𝓤})
 pan_once = by_result refl (λ κs a v w. refl)
 
-pub set_offset_once : Determines set_offset.signature (λ M. set_offset.clauses)
+pub set_offset_once : Determines set_offset.signature (λ M 𝓤. set_offset.clauses {M = M} {𝓤 = 𝓤})
 set_offset_once = by_result refl (λ κs a v w. refl)
 
-pub set_mode_once : Determines set_mode.signature (λ M. set_mode.clauses)
+pub set_mode_once : Determines set_mode.signature (λ M 𝓤. set_mode.clauses {M = M} {𝓤 = 𝓤})
 set_mode_once = by_result refl (λ κs a v w. refl)
 
-pub video_once : Determines video.signature (λ M. video.clauses)
+pub video_once : Determines video.signature (λ M 𝓤. video.clauses {M = M} {𝓤 = 𝓤})
 video_once = by_result refl (λ κs a v w. refl)
 
-pub horizontal_sync_once : Determines horizontal_sync.signature (λ M. horizontal_sync.clauses)
+pub horizontal_sync_once : Determines horizontal_sync.signature (λ M 𝓤. horizontal_sync.clauses {M = M} {𝓤 = 𝓤})
 horizontal_sync_once = by_result refl (λ κs a v w. refl)
 
-pub vertical_sync_once : Determines vertical_sync.signature (λ M. vertical_sync.clauses)
+pub vertical_sync_once : Determines vertical_sync.signature (λ M 𝓤. vertical_sync.clauses {M = M} {𝓤 = 𝓤})
 vertical_sync_once = by_result refl (λ κs a v w. refl)
 
-pub fetch_once : Determines fetch.signature (λ M. fetch.clauses)
+pub fetch_once : Determines fetch.signature (λ M 𝓤. fetch.clauses {M = M} {𝓤 = 𝓤})
 fetch_once = by_result refl (λ κs a v w. refl)

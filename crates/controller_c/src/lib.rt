@@ -1,6 +1,8 @@
 // The Am8150's calls as a C program makes them. `host/include/linkshoar.h` declares them.
 // The state goes by value, in flat structs; arguments that have a refusal, and yes-or-no arguments, are 32 bits wide and are tested before
 // they are narrowed. Nothing is allocated and nothing is kept.
+#![tactic(auto)]
+
 ghost use Rattle.std.specs.Prelude.{◌≡◌};
 ghost use Rattle.controller.specs.State.{fresh};
 ghost use Rattle.controller.specs.Calls.{SetTopOfFrame, Pan, SetOffset, SetMode, Video, HorizontalSync, VerticalSync};
@@ -16,7 +18,7 @@ use state::{hand, lawful, take};
 
 // The controller's state as the C program holds it. update: 0 retrace only, 1 override, 2 interleaved; page, video, inhibited: 0 or 1.
 #[repr(C)]
-#[derive(Drop)]
+#[derive(Clone, Copy)]
 pub struct Held {
     pub top: u32,
     pub counter: u32,
@@ -31,7 +33,7 @@ pub struct Held {
 
 // The state after a call, and the number given back.
 #[repr(C)]
-#[derive(Drop)]
+#[derive(Clone, Copy)]
 pub struct Controlled {
     pub state: Held,
     pub number: u32,
@@ -39,7 +41,7 @@ pub struct Controlled {
 
 // The state after a fetch, the number given back, and the address of the word fetched.
 #[repr(C)]
-#[derive(Drop)]
+#[derive(Clone, Copy)]
 pub struct Fetched {
     pub state: Held,
     pub number: u32,

@@ -1,6 +1,8 @@
 // The C interface: the calls of the crates below as a C program makes them. `host/include/linkshoar.h` declares them.
 // Structs go by value, slices as pointer and length; arguments that have a refusal are 32 bits wide and are tested before they are
 // narrowed. Nothing is allocated and nothing is kept.
+#![tactic(auto)]
+
 ghost use Rattle.std.specs.Prelude.{◌≡◌};
 ghost use Rattle.vram.specs.State.{fresh as freshVram};
 ghost use Rattle.vram.specs.Calls.{word_read_call};
@@ -22,7 +24,7 @@ use vram::{Vram, Word};
 
 // The state after a run, and the number given back.
 #[repr(C)]
-#[derive(Drop)]
+#[derive(Clone, Copy)]
 pub struct Shown {
     pub state: Registers,
     pub number: u32,
@@ -30,7 +32,7 @@ pub struct Shown {
 
 // The state after a clock, the word answered, and the number given back.
 #[repr(C)]
-#[derive(Drop)]
+#[derive(Clone, Copy)]
 pub struct Clocked {
     pub state: Registers,
     pub word: u16,

@@ -11,19 +11,19 @@ use Rattle.list.specs.contracts.fields.waits as waits
 use Rattle.list.specs.contracts.left.opens as opens
 use Rattle.list.specs.contracts.left.left_behind as left_behind
 
-pub number_at_once : Determines number_at.signature (λ M. number_at.clauses)
+pub number_at_once : Determines number_at.signature (λ M 𝓤. number_at.clauses {M = M} {𝓤 = 𝓤})
 number_at_once = by_result refl (λ κs a v w. refl)
 
-pub sized_once : Determines sized.signature (λ M. sized.clauses)
+pub sized_once : Determines sized.signature (λ M 𝓤. sized.clauses {M = M} {𝓤 = 𝓤})
 sized_once = by_result refl (λ κs a v w. refl)
 
-pub head_once : Determines head_of.signature (λ M. head_of.clauses)
+pub head_once : Determines head_of.signature (λ M 𝓤. head_of.clauses {M = M} {𝓤 = 𝓤})
 head_once = by_result refl (λ κs a v w. refl)
 
-pub check_once : Determines check.signature (λ M. check.clauses)
+pub check_once : Determines check.signature (λ M 𝓤. check.clauses {M = M} {𝓤 = 𝓤})
 check_once = by_result refl (λ κs a v w. refl)
 
-pub run_once : Determines run.signature (λ M. run.clauses)
+pub run_once : Determines run.signature (λ M 𝓤. run.clauses {M = M} {𝓤 = 𝓤})
 run_once =
     by_outcome refl
     (λ κs a o. (
@@ -32,11 +32,11 @@ run_once =
     ))
     (λ κs a x. refl)
 
-pub waits_once : Determines waits.signature (λ M. waits.clauses)
+pub waits_once : Determines waits.signature (λ M 𝓤. waits.clauses {M = M} {𝓤 = 𝓤})
 waits_once = by_result refl (λ κs a v w. refl)
 
-pub opens_once : Determines opens.signature (λ M. opens.clauses)
+pub opens_once : Determines opens.signature (λ M 𝓤. opens.clauses {M = M} {𝓤 = 𝓤})
 opens_once = by_result refl (λ κs a v w. refl)
 
-pub left_behind_once : Determines left_behind.signature (λ M. left_behind.clauses)
+pub left_behind_once : Determines left_behind.signature (λ M 𝓤. left_behind.clauses {M = M} {𝓤 = 𝓤})
 left_behind_once = by_result refl (λ κs a v w. refl)

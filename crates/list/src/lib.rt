@@ -1,5 +1,7 @@
 // Lists of cycles: document 01, "Lists and fills". A list is fields of one-byte tag, two-byte length, body, numbers high byte first.
 // It is checked whole, then run in order over the cycles of `vram`, which this crate knows only by their contracts.
+#![tactic(auto)]
+
 ghost use Rattle.std.specs.Prelude.{◌≡◌};
 ghost use Rattle.vram.specs.Board.{board};
 ghost use Rattle.list.specs.declared.Open.TheVariants.{None};
@@ -21,21 +23,21 @@ use runs::{cycle_of, run_fields};
 use vram::{Cycle, Vram};
 
 // The number that a list is refused with and the offset of the field that it is about; zeros where nothing is refused.
-#[derive(Drop)]
+#[derive(Clone, Copy)]
 pub struct Bad {
     pub number: u32,
     pub place: u64,
 }
 
 // The last mask load of some fields, where no reset refresh comes after it: none, or its offset.
-#[derive(Drop)]
+#[derive(Clone, Copy)]
 pub enum Open {
     None,
     At(u64),
 }
 
 // The field at the head of some bytes: one that more bytes may yet make, one that none can, or a cycle and how many bytes it takes.
-#[derive(Drop)]
+#[derive(Clone, Copy)]
 pub enum Head {
     Waits,
     Wrong,
@@ -43,7 +45,7 @@ pub enum Head {
 }
 
 // The state after a list, the number given back, and the offset of the field that it is about.
-#[derive(Drop)]
+#[derive(Clone, Copy)]
 pub struct Ran {
     pub state: Vram,
     pub number: u32,

@@ -1,5 +1,7 @@
 // Which rows changed: change request M-104. A list is run with a mark for each of the 512 rows, in 64 lent bytes: row r at bit r mod 8
 // of byte r / 8. A mark is set when a word or block write that names the row has run, even if it changed no bit.
+#![tactic(auto)]
+
 ghost use Rattle.std.specs.Prelude.{◌≡◌};
 ghost use Rattle.vram.specs.Board.{board};
 ghost use Rattle.marks.specs.Calls.{length_number, outcome, run_call, noted, mark_call, cleared, clear_call, next_call};
@@ -12,14 +14,14 @@ use rows::{first_from, mark_writes, put_zeros};
 use vram::Vram;
 
 // What is found: no marked row, or one.
-#[derive(Drop)]
+#[derive(Clone, Copy)]
 pub enum Found {
     None,
     Row(u16),
 }
 
 // The number given back, and what is found: none where the call is refused.
-#[derive(Drop)]
+#[derive(Clone, Copy)]
 pub struct Marked {
     pub number: u32,
     pub found: Found,

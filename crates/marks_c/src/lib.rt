@@ -1,5 +1,7 @@
 // Marks of rows as a C program has them: change request M-104. `host/include/linkshoar.h` declares the calls.
 // They stand in an object of their own: a second run of lists beside `host`'s would stop the compiler from keeping its cycles in line.
+#![tactic(auto)]
+
 ghost use Rattle.std.specs.Prelude.{◌≡◌};
 ghost use Rattle.marks.specs.Calls.{cleared, clear_call, next_call};
 ghost use Rattle.marks_c.specs.Calls.{listed, marked_call, handed_next};
@@ -9,7 +11,7 @@ use registers::{Ran, Registers, hand_ran, lawful, take};
 
 // The number given back, and what is found: found 0 is none, 1 a row.
 #[repr(C)]
-#[derive(Drop)]
+#[derive(Clone, Copy)]
 pub struct Marked {
     pub number: u32,
     pub found: u32,

@@ -1,6 +1,8 @@
 // The numbers given back: document 01, "Numbers given back"; 16 and 17 are change request M-100's, 18 is M-104's, 19 is M-107's, 20 is
 // M-111's, 21 and 22 are M-112's. Each call answers one of them; 0 is done, and of several that hold the lowest is given, but 18 comes
 // straight after 3.
+#![tactic(auto)]
+
 ghost use Rattle.std.specs.Prelude.{◌≡◌};
 ghost use Rattle.numbers.specs.Refuse.{refuse};
 

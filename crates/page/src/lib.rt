@@ -1,5 +1,7 @@
 // A page of fills at once: change request M-103. A list of rectangles is answered with the lists of their fills, joined.
 // The panel's host program calls `linkshoar_page`, which checks and measures all first and writes after, straight into the lent buffer.
+#![tactic(auto)]
+
 ghost use Rattle.std.specs.Prelude.{◌≡◌};
 ghost use Rattle.page.specs.Calls.{refused, outcome, page_call};
 
@@ -12,7 +14,7 @@ use lists::put_fills;
 use numbers::refuse;
 
 // A rectangle with its bit mask and colour; the ends are not included.
-#[derive(Drop)]
+#[derive(Clone, Copy)]
 pub(crate) struct Rectangle {
     pub first_row: u16,
     pub end_row: u16,
@@ -23,7 +25,7 @@ pub(crate) struct Rectangle {
 }
 
 // What is left of the buffer after some lists, or that they pass it.
-#[derive(Drop)]
+#[derive(Clone, Copy)]
 pub(crate) enum Room {
     Left(usize),
     Passed,
@@ -31,7 +33,7 @@ pub(crate) enum Room {
 
 // The number given back, the offset of the field that it is about, and the bytes and cycles of the joined list.
 #[repr(C)]
-#[derive(Drop)]
+#[derive(Clone, Copy)]
 pub struct Paged {
     pub number: u32,
     pub place: u64,

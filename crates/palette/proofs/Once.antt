@@ -9,22 +9,22 @@ use Rattle.palette.specs.contracts.Palette.read as read
 use Rattle.palette.specs.contracts.lent.linkshoar_palette_write_lent as write_lent
 use Rattle.palette.specs.contracts.lent.linkshoar_palette_read_lent as read_lent
 
-pub fresh_once : Determines fresh.signature (λ M. fresh.clauses)
+pub fresh_once : Determines fresh.signature (λ M 𝓤. fresh.clauses {M = M} {𝓤 = 𝓤})
 fresh_once = by_result refl (λ κs a v w. refl)
 
-pub ruled_once : Determines ruled.signature (λ M. ruled.clauses)
+pub ruled_once : Determines ruled.signature (λ M 𝓤. ruled.clauses {M = M} {𝓤 = 𝓤})
 ruled_once = by_result refl (λ κs a v w. refl)
 
-pub write_once : Determines write.signature (λ M. write.clauses)
+pub write_once : Determines write.signature (λ M 𝓤. write.clauses {M = M} {𝓤 = 𝓤})
 write_once = by_outcome refl (λ κs a o. (o.answer, (tt, (o.table, (tt, (tt, tt)))))) (λ κs a x. refl)
 
-pub read_once : Determines read.signature (λ M. read.clauses)
+pub read_once : Determines read.signature (λ M 𝓤. read.clauses {M = M} {𝓤 = 𝓤})
 read_once = by_result refl (λ κs a v w. refl)
 
 -- ---- with the state lent
 
-pub write_lent_once : Determines write_lent.signature (λ M. write_lent.clauses)
+pub write_lent_once : Determines write_lent.signature (λ M 𝓤. write_lent.clauses {M = M} {𝓤 = 𝓤})
 write_lent_once = by_outcome refl (λ κs a o. (o.answer.number, (o.answer.state, (o.table, (tt, (tt, tt)))))) (λ κs a x. refl)
 
-pub read_lent_once : Determines read_lent.signature (λ M. read_lent.clauses)
+pub read_lent_once : Determines read_lent.signature (λ M 𝓤. read_lent.clauses {M = M} {𝓤 = 𝓤})
 read_lent_once = by_outcome refl (λ κs a o. (record { number = o.number; byte = o.byte }, (o.state, (tt, (tt, tt))))) (λ κs a x. refl)

@@ -6,7 +6,7 @@ use crate::Palette;
 
 // What a read with the state lent answers: the number given back, and the byte.
 #[repr(C)]
-#[derive(Drop)]
+#[derive(Clone, Copy)]
 pub struct Byte {
     pub number: u32,
     pub byte: u8,

@@ -3,6 +3,8 @@
 // blue the colour registers take the next entry, and A goes up by one.
 // A call stands for a whole access. Not modelled: pin edges, nanoseconds and the clocks between two accesses, the pixel inputs and
 // their delay, blank, the converters and their levels. One phase serves reads and writes, as the sheet's one counter does.
+#![tactic(auto)]
+
 ghost use Rattle.std.specs.Prelude.{◌≡◌};
 ghost use Rattle.palette.specs.State.{fresh};
 ghost use Rattle.palette.specs.Calls.{access_refusal, outcome, write_call, read_call};
@@ -13,7 +15,7 @@ mod state;
 
 // The registers, by value. Every field is public: a state that the rules exclude can be built, and is refused.
 #[repr(C)]
-#[derive(Drop)]
+#[derive(Clone, Copy)]
 pub struct Palette {
     pub address: u8,
     pub phase: u8,
@@ -25,7 +27,7 @@ pub struct Palette {
 
 // The state after an access, the byte answered (0 for a write), and the number given back.
 #[repr(C)]
-#[derive(Drop)]
+#[derive(Clone, Copy)]
 pub struct Accessed {
     pub state: Palette,
     pub byte: u8,

@@ -6,11 +6,11 @@ use Rattle.panel.specs.contracts.run_at as run_at
 use Rattle.panel.specs.contracts.run as run
 use Rattle.panel.specs.contracts.run_six as run_six
 
-pub run_at_once : Determines run_at.signature (λ M. run_at.clauses)
+pub run_at_once : Determines run_at.signature (λ M 𝓤. run_at.clauses {M = M} {𝓤 = 𝓤})
 run_at_once = by_outcome refl (λ κs a o. (o.answer, (tt, (tt, (tt, (tt, (tt, (tt, (tt, (o.buffer, tt)))))))))) (λ κs a x. refl)
 
-pub run_once : Determines run.signature (λ M. run.clauses)
+pub run_once : Determines run.signature (λ M 𝓤. run.clauses {M = M} {𝓤 = 𝓤})
 run_once = by_outcome refl (λ κs a o. (o.answer, (tt, (tt, (tt, (tt, (tt, (tt, (o.buffer, tt))))))))) (λ κs a x. refl)
 
-pub run_six_once : Determines run_six.signature (λ M. run_six.clauses)
+pub run_six_once : Determines run_six.signature (λ M 𝓤. run_six.clauses {M = M} {𝓤 = 𝓤})
 run_six_once = by_outcome refl (λ κs a o. (o.answer, (tt, (tt, (tt, (tt, (tt, (tt, (o.buffer, tt))))))))) (λ κs a x. refl)

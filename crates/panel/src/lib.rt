@@ -5,6 +5,8 @@
 // A call stands for a whole run. Not modelled: the pixel clock, sync, the converters and their levels.
 // A run goes in stretches to the end of a partition, so that the inner loop has no test; the tap is used up and the pointer advanced in
 // `vram` alone.
+#![tactic(auto)]
+
 ghost use Rattle.std.specs.Prelude.{◌≡◌};
 ghost use Rattle.panel.specs.Calls.{outcome, run_refusal, run_call_by, run_call, run_six_call};
 ghost use Rattle.panel.specs.Panel.{part_at};
@@ -44,7 +46,7 @@ fn refusal(
 }
 
 // How many bits the panel takes for a part: six, as the palette has them, or eight, to which it is widened.
-#[derive(Drop)]
+#[derive(Clone, Copy)]
 pub enum Width {
     Six,
     Eight,

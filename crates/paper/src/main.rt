@@ -1,6 +1,8 @@
 // Prints one block write worked through bit by bit: the figures of docs/PENCIL.md (change request M-105). Which bits are set, covered, let
 // through, left and written, and which mask is in force, is asked of the plain engine's own functions; the numbers of quads and of the column
 // mask's bits stand beside them for the reader. Then a list that has the block write runs on both engines.
+#![tactic(auto)]
+
 use list::Ran;
 use pencil::bits::{has, let_through, strobed};
 use pencil::block::bits_left;
@@ -30,7 +32,7 @@ const BASE: usize = 512 * ROW + 4 * (COLUMN / 4);
 const BEFORE: [u16; 4] = [0x8142, 0x8100, 0x81FF, 0x8037];
 
 // A row of the working.
-#[derive(Drop)]
+#[derive(Clone, Copy)]
 enum Row {
     Bit,
     Quad,
@@ -45,7 +47,7 @@ enum Row {
 }
 
 // One column of the block: its number, the mask in force, the bits that the column has left, its word before and after.
-#[derive(Drop)]
+#[derive(Clone, Copy)]
 struct Column {
     j: u16,
     force: u16,

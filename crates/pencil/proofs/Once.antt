@@ -11,25 +11,25 @@ use Rattle.pencil.specs.contracts.block.bits_left as bits_left
 use Rattle.pencil.specs.contracts.run as run
 use Rattle.pencil.specs.contracts.run_marked as run_marked
 
-pub has_once : Determines has.signature (λ M. has.clauses)
+pub has_once : Determines has.signature (λ M 𝓤. has.clauses {M = M} {𝓤 = 𝓤})
 has_once = by_result refl (λ κs a v w. refl)
 
-pub strobed_once : Determines strobed.signature (λ M. strobed.clauses)
+pub strobed_once : Determines strobed.signature (λ M 𝓤. strobed.clauses {M = M} {𝓤 = 𝓤})
 strobed_once = by_result refl (λ κs a v w. refl)
 
-pub let_through_once : Determines let_through.signature (λ M. let_through.clauses)
+pub let_through_once : Determines let_through.signature (λ M 𝓤. let_through.clauses {M = M} {𝓤 = 𝓤})
 let_through_once = by_result refl (λ κs a v w. refl)
 
-pub in_force_once : Determines in_force.signature (λ M. in_force.clauses)
+pub in_force_once : Determines in_force.signature (λ M 𝓤. in_force.clauses {M = M} {𝓤 = 𝓤})
 in_force_once = by_result refl (λ κs a v w. refl)
 
-pub write_bits_once : Determines write_bits.signature (λ M. write_bits.clauses)
+pub write_bits_once : Determines write_bits.signature (λ M 𝓤. write_bits.clauses {M = M} {𝓤 = 𝓤})
 write_bits_once = by_result refl (λ κs a v w. refl)
 
-pub bits_left_once : Determines bits_left.signature (λ M. bits_left.clauses)
+pub bits_left_once : Determines bits_left.signature (λ M 𝓤. bits_left.clauses {M = M} {𝓤 = 𝓤})
 bits_left_once = by_result refl (λ κs a v w. refl)
 
-pub run_once : Determines run.signature (λ M. run.clauses)
+pub run_once : Determines run.signature (λ M 𝓤. run.clauses {M = M} {𝓤 = 𝓤})
 run_once =
     by_outcome refl
     (λ κs a o. (
@@ -38,7 +38,7 @@ run_once =
     ))
     (λ κs a x. refl)
 
-pub run_marked_once : Determines run_marked.signature (λ M. run_marked.clauses)
+pub run_marked_once : Determines run_marked.signature (λ M 𝓤. run_marked.clauses {M = M} {𝓤 = 𝓤})
 run_marked_once =
     by_outcome refl
     (λ κs a o. (

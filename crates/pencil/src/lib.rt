@@ -3,6 +3,8 @@
 // each column, through the bits that column has left (`block.rt`). Source document 004 (TMS55161): byte operation, write-per-bit, block
 // write; document 01 decides. It shares no code that writes with `vram`. Loads, reset refresh, transfers and stop points are `vram`'s own,
 // by its one call; what is not modelled is said there.
+#![tactic(auto)]
+
 ghost use Rattle.std.specs.Prelude.{◌≡◌};
 ghost use Rattle.vram.specs.Board.{board};
 ghost use Rattle.list.specs.Meaning.{outcome};

@@ -6,10 +6,10 @@ use Rattle.pieces.specs.contracts.fresh as fresh
 use Rattle.pieces.specs.contracts.take as take
 use Rattle.pieces.specs.contracts.end as end
 
-pub fresh_once : Determines fresh.signature (λ M. fresh.clauses)
+pub fresh_once : Determines fresh.signature (λ M 𝓤. fresh.clauses {M = M} {𝓤 = 𝓤})
 fresh_once = by_result refl (λ κs a v w. refl)
 
-pub take_once : Determines take.signature (λ M. take.clauses)
+pub take_once : Determines take.signature (λ M 𝓤. take.clauses {M = M} {𝓤 = 𝓤})
 take_once =
     by_outcome refl
     (λ κs a o. (
@@ -18,7 +18,7 @@ take_once =
     ))
     (λ κs a x. refl)
 
-pub end_once : Determines end.signature (λ M. end.clauses)
+pub end_once : Determines end.signature (λ M 𝓤. end.clauses {M = M} {𝓤 = 𝓤})
 end_once =
     by_outcome refl
     (λ κs a o. (record { state = o.after.state; pieces = o.pieces; number = o.given.number; place = o.given.place }, (tt, (tt, (tt, (tt, tt))))))

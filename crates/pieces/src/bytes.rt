@@ -14,7 +14,7 @@ use list::Open;
 use vram::Vram;
 
 // Where the list stands, and the state.
-#[derive(Drop)]
+#[derive(Clone, Copy)]
 pub(crate) struct Moved {
     pub pieces: Pieces,
     pub state: Vram,

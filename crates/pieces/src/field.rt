@@ -13,7 +13,7 @@ use vram::Vram;
 
 // What the field at the head of some bytes leaves: the state, the open mask load, how many bytes it took, and its number; or the bytes wait
 // for more. Bytes that wait, and a field that is refused, take none.
-#[derive(Drop)]
+#[derive(Clone, Copy)]
 pub(crate) struct Met {
     pub state: Vram,
     pub left: Open,

@@ -1,5 +1,7 @@
 // Lists that come in pieces: change request M-109. A slow port sends a list a few bytes at a time; each field runs when its last byte has
 // come. Between two pieces the caller keeps where the list stands, which holds at most one unfinished field.
+#![tactic(auto)]
+
 ghost use Rattle.std.specs.Prelude.{◌≡◌, length};
 ghost use Rattle.numbers.specs.Refuse.{refuse as refused};
 ghost use Rattle.vram.specs.Board.{board};
@@ -30,7 +32,7 @@ pub(crate) const SAFE: u32 = 4294967282;
 
 // Where a list stands between two pieces: the unfinished field's bytes and zeros after them, how many are held, the field's offset in the
 // list, the number that the list was refused with at that offset or 0, and the mask load that is still open.
-#[derive(Drop)]
+#[derive(Clone, Copy)]
 pub struct Pieces {
     pub held: [u8; 13],
     pub count: u8,
@@ -40,7 +42,7 @@ pub struct Pieces {
 }
 
 // The state after a piece or the last call, where the list stands, the number given back, and the offset of the field that it is about.
-#[derive(Drop)]
+#[derive(Clone, Copy)]
 pub struct Taken {
     pub state: Vram,
     pub pieces: Pieces,

@@ -14,7 +14,7 @@ use list::Open;
 use vram::Vram;
 
 // Where the list stands, the state, and how many bytes are used up.
-#[derive(Drop)]
+#[derive(Clone, Copy)]
 struct Went {
     pieces: Pieces,
     state: Vram,

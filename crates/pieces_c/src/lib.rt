@@ -1,5 +1,7 @@
 // Lists in pieces as a C program has them: change request M-109. `host/include/linkshoar.h` declares the calls.
 // They stand in an object of their own: a second run of cycles beside `host`'s would stop the compiler from keeping those in line.
+#![tactic(auto)]
+
 ghost use Rattle.std.specs.Prelude.{◌≡◌};
 ghost use Rattle.pieces.specs.Line.{fresh};
 ghost use Rattle.pieces.specs.Pieces.{pack};
@@ -13,7 +15,7 @@ use registers::{Registers, take};
 
 // Where a list stands between two pieces. open: 0 no mask load is open, 1 one is, at the offset left.
 #[repr(C)]
-#[derive(Drop)]
+#[derive(Clone, Copy)]
 pub struct Pieces {
     pub left: u64,
     pub start: u32,
@@ -25,7 +27,7 @@ pub struct Pieces {
 
 // The state after a piece or the last call, where the list stands, the number given back, and the offset of the field that it is about.
 #[repr(C)]
-#[derive(Drop)]
+#[derive(Clone, Copy)]
 pub struct Taken {
     pub state: Registers,
     pub pieces: Pieces,

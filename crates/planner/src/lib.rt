@@ -1,6 +1,8 @@
 // The planner of fills: document 01, "Lists and fills". A fill is answered with the shortest list that paints it.
 // The panel's host program is in C and calls `linkshoar_fill`.
 // It checks first and writes after, straight into the lent buffer.
+#![tactic(auto)]
+
 ghost use Rattle.std.specs.Prelude.{◌≡◌, ◌+◌, ◌-◌, ◌*◌, ◌/◌, ◌≤◌};
 ghost use Rattle.planner.specs.Fill.{fill};
 ghost use Rattle.planner.specs.Calls.{outcome, asked_refusal, measure_call, fill_call};
@@ -17,7 +19,7 @@ use numbers::refuse;
 
 // The number given back, how many bytes the list has, and how many cycles.
 #[repr(C)]
-#[derive(Drop)]
+#[derive(Clone, Copy)]
 pub struct Filled {
     pub number: u32,
     pub bytes: u32,
@@ -25,7 +27,7 @@ pub struct Filled {
 }
 
 // What a fill comes to: refused with a number; nothing to paint; so many word writes; or a colour load and so many block writes.
-#[derive(Drop)]
+#[derive(Clone, Copy)]
 pub(crate) enum Shape {
     Refused(u32),
     Nothing,

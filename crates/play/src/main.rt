@@ -1,10 +1,12 @@
 // Runs a list from standard input on 64 rows of zeros and a fresh state, and prints what came: document 01, "The program `play`". The text
 // is `report`'s. At most 4,097 bytes are read, reading on after short reads: with so many the list is too long. Where a read fails
 // nothing is printed, since a list cut between two fields would look whole.
+#![tactic(auto)]
+
 ghost use Rattle.std.specs.Prelude.{◌≡◌, ◌≤◌, length};
 
 // How many bytes came, or that a read failed.
-#[derive(Drop)]
+#[derive(Clone, Copy)]
 struct Taken {
     bytes: usize,
     failed: bool,

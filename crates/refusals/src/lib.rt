@@ -1,6 +1,8 @@
 // What refuses a cycle of each kind, by its numbers alone: document 01, "Numbers given back", 2 and 5 to 10, and 19 of change request
 // M-107. The lowest wins: a write leaves by its first test that fails, the others chain by `refuse`, the last test first. A single cycle and
 // a list, which is judged from its bytes, ask here, and the rule stands once.
+#![tactic(auto)]
+
 ghost use Rattle.std.specs.Prelude.{◌≡◌};
 ghost use Rattle.refusals.specs.Refusal.{fitted, placed, partition_ok, write_refusal, load_refusal, full_refusal, split_refusal, stop_refusal};
 

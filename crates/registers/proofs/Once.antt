@@ -7,14 +7,14 @@ use Rattle.registers.specs.contracts.take as take
 use Rattle.registers.specs.contracts.hand as hand
 use Rattle.registers.specs.contracts.hand_ran as hand_ran
 
-pub lawful_once : Determines lawful.signature (λ M. lawful.clauses)
+pub lawful_once : Determines lawful.signature (λ M 𝓤. lawful.clauses {M = M} {𝓤 = 𝓤})
 lawful_once = by_result refl (λ κs a v w. refl)
 
-pub take_once : Determines take.signature (λ M. take.clauses)
+pub take_once : Determines take.signature (λ M 𝓤. take.clauses {M = M} {𝓤 = 𝓤})
 take_once = by_result refl (λ κs a v w. refl)
 
-pub hand_once : Determines hand.signature (λ M. hand.clauses)
+pub hand_once : Determines hand.signature (λ M 𝓤. hand.clauses {M = M} {𝓤 = 𝓤})
 hand_once = by_result refl (λ κs a v w. refl)
 
-pub hand_ran_once : Determines hand_ran.signature (λ M. hand_ran.clauses)
+pub hand_ran_once : Determines hand_ran.signature (λ M 𝓤. hand_ran.clauses {M = M} {𝓤 = 𝓤})
 hand_ran_once = by_result refl (λ κs a v w. refl)

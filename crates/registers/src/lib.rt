@@ -1,5 +1,7 @@
 // The video RAM's state, and the answer to a list, as C has them: what every crate that takes the state from C and hands it back rests on.
 // Structs go by value; a state that no `Vram` can be is told before it is taken.
+#![tactic(auto)]
+
 ghost use Rattle.std.specs.Prelude.{◌≡◌};
 ghost use Rattle.registers.specs.State.{lawful, waiting_of, taken, handed, handed_ran};
 
@@ -8,7 +10,7 @@ use vram::{Stop, Vram, Waiting};
 
 // The registers. waiting: 0 none, 1 tap. stop: the length of a partition.
 #[repr(C)]
-#[derive(Drop)]
+#[derive(Clone, Copy)]
 pub struct Registers {
     pub colour: u16,
     pub mask: u16,
@@ -22,7 +24,7 @@ pub struct Registers {
 
 // The state after a list, the number given back, and the offset of the field that it is about.
 #[repr(C)]
-#[derive(Drop)]
+#[derive(Clone, Copy)]
 pub struct Ran {
     pub state: Registers,
     pub number: u32,

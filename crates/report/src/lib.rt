@@ -1,5 +1,7 @@
 // The text that `play` prints, as a function from a list's bytes: document 01, "The program `play`". The list runs on 64 rows of zeros and
 // a fresh state.
+#![tactic(auto)]
+
 ghost use Rattle.std.specs.Prelude.{◌≡◌, ◌≤◌, length};
 ghost use Rattle.list.specs.Meaning.{run_call};
 ghost use Rattle.report.specs.Text.{Put};
@@ -12,7 +14,7 @@ use text::{put_bytes, put_lines};
 use vram::Vram;
 
 // The number given back, and how many bytes the text has.
-#[derive(Drop)]
+#[derive(Clone, Copy)]
 pub struct Reported {
     pub number: u32,
     pub bytes: usize,

@@ -13,30 +13,30 @@ use Rattle.vram.specs.contracts.Vram.clock as clock
 use Rattle.vram.specs.contracts.Vram.clocks as clocks
 use Rattle.vram.specs.contracts.Vram.given as given
 
-pub of_once : Determines of.signature (λ M. of.clauses)
+pub of_once : Determines of.signature (λ M 𝓤. of.clauses {M = M} {𝓤 = 𝓤})
 of_once = by_result refl (λ κs a v w. refl)
 
-pub length_once : Determines length.signature (λ M. length.clauses)
+pub length_once : Determines length.signature (λ M 𝓤. length.clauses {M = M} {𝓤 = 𝓤})
 length_once = by_result refl (λ κs a v w. refl)
 
-pub fresh_once : Determines fresh.signature (λ M. fresh.clauses)
+pub fresh_once : Determines fresh.signature (λ M 𝓤. fresh.clauses {M = M} {𝓤 = 𝓤})
 fresh_once = by_result refl (λ κs a v w. refl)
 
-pub ruled_once : Determines ruled.signature (λ M. ruled.clauses)
+pub ruled_once : Determines ruled.signature (λ M 𝓤. ruled.clauses {M = M} {𝓤 = 𝓤})
 ruled_once = by_result refl (λ κs a v w. refl)
 
-pub cycle_once : Determines cycle.signature (λ M. cycle.clauses)
+pub cycle_once : Determines cycle.signature (λ M 𝓤. cycle.clauses {M = M} {𝓤 = 𝓤})
 cycle_once =
     by_outcome refl (λ κs a o. (answered o.given o.after.state, (tt, (o.after.memory, (o.after.serial, (tt, tt)))))) (λ κs a x. refl)
 
-pub read_once : Determines read.signature (λ M. read.clauses)
+pub read_once : Determines read.signature (λ M 𝓤. read.clauses {M = M} {𝓤 = 𝓤})
 read_once = by_result refl (λ κs a v w. refl)
 
-pub clock_once : Determines clock.signature (λ M. clock.clauses)
+pub clock_once : Determines clock.signature (λ M 𝓤. clock.clauses {M = M} {𝓤 = 𝓤})
 clock_once = by_result refl (λ κs a v w. refl)
 
-pub clocks_once : Determines clocks.signature (λ M. clocks.clauses)
+pub clocks_once : Determines clocks.signature (λ M 𝓤. clocks.clauses {M = M} {𝓤 = 𝓤})
 clocks_once = by_result refl (λ κs a v w. refl)
 
-pub given_once : Determines given.signature (λ M. given.clauses)
+pub given_once : Determines given.signature (λ M 𝓤. given.clauses {M = M} {𝓤 = 𝓤})
 given_once = by_result refl (λ κs a v w. refl)

@@ -4,6 +4,8 @@
 // bits 7 and 8 in stop-point mode, masked transfers, serial input. A split tap of 127, which the sheet calls not valid, is accepted: the
 // table of document 01 allows 0 to 127. Stop points (change request M-107) are set by the length of a partition, not by the
 // sheet's code for it.
+#![tactic(auto)]
+
 ghost use Rattle.std.specs.Prelude.{◌≡◌};
 ghost use Rattle.vram.specs.State.{stop_length, stop_of, fresh};
 ghost use Rattle.vram.specs.Calls.{word_read_call};
@@ -19,14 +21,14 @@ use numbers::refuse;
 use refusals::{fitted, placed};
 
 // The tap that a split transfer leaves for the end of the pointer's partition.
-#[derive(Drop)]
+#[derive(Clone, Copy)]
 pub enum Waiting {
     None,
     Tap(u8),
 }
 
 // The length of a partition of the serial register: a stop point every so many places. There is no other length to exclude.
-#[derive(Drop)]
+#[derive(Clone, Copy)]
 pub enum Stop {
     Every16,
     Every32,
@@ -35,7 +37,7 @@ pub enum Stop {
 }
 
 // The registers, by value. Every field is public: a state that the rules exclude can be built, and is refused.
-#[derive(Drop)]
+#[derive(Clone, Copy)]
 pub struct Vram {
     pub colour: u16,
     pub mask: u16,
@@ -47,7 +49,7 @@ pub struct Vram {
 }
 
 // A cycle on the memory, with the widths of a field's body.
-#[derive(Drop)]
+#[derive(Clone, Copy)]
 pub enum Cycle {
     WordWrite {
         row: u16,
@@ -90,14 +92,14 @@ pub enum Cycle {
 }
 
 // The state after a call, and the number given back.
-#[derive(Drop)]
+#[derive(Clone, Copy)]
 pub struct Answered {
     pub state: Vram,
     pub number: u32,
 }
 
 // The same of a serial clock, with the word answered.
-#[derive(Drop)]
+#[derive(Clone, Copy)]
 pub struct Clocked {
     pub state: Vram,
     pub word: u16,
@@ -105,7 +107,7 @@ pub struct Clocked {
 }
 
 // The same of a run of clocks, with how many more lead through the end of the partition.
-#[derive(Drop)]
+#[derive(Clone, Copy)]
 pub struct Moved {
     pub state: Vram,
     pub through: u32,
@@ -114,7 +116,7 @@ pub struct Moved {
 
 // What a word read gives back.
 #[repr(C)]
-#[derive(Drop)]
+#[derive(Clone, Copy)]
 pub struct Word {
     pub number: u32,
     pub word: u16,

@@ -1,5 +1,7 @@
 // A 16-bit word as bits: merging through a mask, what strobes cover, what a column mask lets through. Source document 004 (TMS55161):
 // byte operation, write-per-bit, block write; document 01 decides.
+#![tactic(auto)]
+
 ghost use Rattle.std.specs.Prelude.{◌≡◌, ◌%◌};
 ghost use Rattle.words.specs.Bit.{bit, of_bits};
 ghost use Rattle.words.specs.Word.{merged, covers, lets};

@@ -1,0 +1,6 @@
+-- `colours::Colours::refusal` meets its contract. Assumes nothing.
+use borrow.Author.Rules.{rules}
+use Rattle.colours.proofs.Colours.refusal.Goals as goal
+
+pub returns : goal.returns
+returns c = rw c.ruled.ensures at c.refuse.ensures

@@ -1,0 +1,21 @@
+-- `colours::Output::levels` meets its contract. Assumes nothing.
+use borrow.Author.Rules.{rules}
+use Rattle.colours.proofs.Output.levels.Goals as goal
+
+pub returns-in-Sync : goal.returns-in-Sync
+returns-in-Sync c = rw c.enum_told-1.given.1
+
+pub returns-in-Blank : goal.returns-in-Blank
+returns-in-Blank c = rw c.enum_told-in-Blank-1.given.1
+
+pub returns-in-Overlay : goal.returns-in-Overlay
+returns-in-Overlay c =
+    rw (
+      c.self-1.given.1,
+      c.overlaid.ensures,
+      c.overlaid-in-Overlay.ensures,
+      c.overlaid-in-Overlay-2.ensures,
+    )
+
+pub returns-in-Colour : goal.returns-in-Colour
+returns-in-Colour c = rw c.self-in-Colour-1.given.1

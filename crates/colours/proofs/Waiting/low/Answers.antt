@@ -1,0 +1,11 @@
+-- `colours::Waiting::low` meets its contract. Assumes nothing.
+use mathlib.Core.Path.{sym, ap}
+use borrow.Author.Rules.{rules}
+use Rattle.colours.specs.State.{low_waiting}
+use Rattle.colours.proofs.Waiting.low.Goals as goal
+
+pub returns-in-None : goal.returns-in-None
+returns-in-None c = sym (ap low_waiting c.enum_told-1.given.1)
+
+pub returns-in-Low : goal.returns-in-Low
+returns-in-Low c = sym (ap low_waiting c.self-1.given.1)

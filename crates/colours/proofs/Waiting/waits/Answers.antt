@@ -1,0 +1,11 @@
+-- `colours::Waiting::waits` meets its contract. Assumes nothing.
+use mathlib.Core.Path.{sym, ap}
+use borrow.Author.Rules.{rules}
+use Rattle.colours.specs.State.{waits}
+use Rattle.colours.proofs.Waiting.waits.Goals as goal
+
+pub returns-in-None : goal.returns-in-None
+returns-in-None c = sym (ap waits c.enum_told-1.given.1)
+
+pub returns-in-Low : goal.returns-in-Low
+returns-in-Low c = sym (ap waits c.self-1.given.1)

@@ -1,0 +1,6 @@
+-- `colours_c::answers::refused_pixel` meets its contract. Assumes nothing.
+use mathlib.Core.Path.{refl}
+use Rattle.colours_c.proofs.answers.refused_pixel.Goals as goal
+
+pub returns : goal.returns
+returns c = refl

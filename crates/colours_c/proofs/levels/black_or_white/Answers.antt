@@ -1,0 +1,6 @@
+-- `colours_c::levels::black_or_white` meets its contract. Assumes nothing.
+use mathlib.Core.Path.{refl}
+use Rattle.colours_c.proofs.levels.black_or_white.Goals as goal
+
+pub returns : goal.returns
+returns c = refl

@@ -1,0 +1,20 @@
+-- `colours_c::levels::number_of` meets its contract. Assumes nothing.
+use mathlib.Core.Path.{sym, ap}
+use borrow.Author.Rules.{rules}
+use Rattle.colours_c.specs.Levels.{number_of}
+use Rattle.colours_c.proofs.levels.number_of.Goals as goal
+
+pub returns-in-Step : goal.returns-in-Step
+returns-in-Step c = sym (ap number_of c.level-1.given.1)
+
+pub returns-in-Sync : goal.returns-in-Sync
+returns-in-Sync c = sym (ap number_of c.enum_told-1.given.1)
+
+pub returns-in-Blank : goal.returns-in-Blank
+returns-in-Blank c = sym (ap number_of c.enum_told-in-Blank-1.given.1)
+
+pub returns-in-Black : goal.returns-in-Black
+returns-in-Black c = sym (ap number_of c.enum_told-in-Black-1.given.1)
+
+pub returns-in-White : goal.returns-in-White
+returns-in-White c = sym (ap number_of c.enum_told-in-White-1.given.1)

@@ -1,0 +1,6 @@
+-- `colours_c::linkshoar_colours_read_high` meets its contract. Assumes nothing.
+use borrow.Author.Rules.{rules}
+use Rattle.colours_c.proofs.linkshoar_colours_read_high.Goals as goal
+
+pub returns : goal.returns
+returns c = c.read_high.ensures

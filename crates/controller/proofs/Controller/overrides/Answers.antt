@@ -1,0 +1,13 @@
+-- `controller::Controller::overrides` meets its contract. Assumes nothing.
+use Rattle.std.proofs.Common.{sym, ap, rules}
+use Rattle.controller.specs.State.{overrides}
+use Rattle.controller.proofs.Controller.overrides.Goals as goal
+
+pub returns-in-Retrace : goal.returns-in-Retrace
+returns-in-Retrace c = sym (ap overrides c.enum_told-1.given.1)
+
+pub returns-in-Override : goal.returns-in-Override
+returns-in-Override c = sym (ap overrides c.enum_told-in-Override-1.given.1)
+
+pub returns-in-Interleaved : goal.returns-in-Interleaved
+returns-in-Interleaved c = sym (ap overrides c.enum_told-in-Interleaved-1.given.1)

@@ -1,0 +1,6 @@
+-- `controller::Controller::refreshed` meets its contract. Assumes nothing.
+use Rattle.std.proofs.Common.{rules}
+use Rattle.controller.proofs.Controller.refreshed.Goals as goal
+
+pub returns : goal.returns
+returns c = rw c.wrapping_add_u8.ensures at c.with_refresh.ensures

@@ -1,0 +1,8 @@
+-- `controller::Controller::ruled` meets its contract. Assumes nothing.
+use Rattle.std.proofs.Common.{rules}
+use Rattle.controller.specs.State.{ruled}
+use Rattle.controller.proofs.Controller.ruled.Goals as goal
+
+pub returns : goal.returns
+unfolding ruled
+returns c = rw c.interleaves-interleaves.ensures

@@ -1,0 +1,35 @@
+-- `controller::Controller::set_mode` meets its contract. Assumes nothing.
+use Rattle.std.proofs.Common.{◌∙◌, arith, rules}
+use Rattle.controller.specs.Calls.{SetMode, allows, against, effect}
+use Rattle.controller.specs.CallLaws.{mode_parts, call_given, call_refused, call_done}
+use Rattle.controller.proofs.Controller.set_mode.Goals as goal
+
+pub returns-then-n-ne-DONE : goal.returns-then-n-ne-DONE
+unfolding allows against
+returns-then-n-ne-DONE c =
+    let d = c in
+    let a = d.args in
+    c.controlled.ensures
+    ∙ call_refused (SetMode a.cycles a.page a.update) a.self _ (rw d.mode_allowed.ensures at d.refusal-n.ensures)
+    c.if-n-ne-DONE.true
+
+pub returns : goal.returns
+unfolding allows against effect
+returns c =
+    let m = c in
+    let i = m in
+    let d = i in
+    let a = d.args in
+    let n = rw d.mode_allowed.ensures at d.refusal-n.ensures in
+    c.controlled-2.ensures
+    ∙ call_done (SetMode a.cycles a.page a.update) a.self d.refusal-n.result n i.if-n-ne-DONE.false
+    (rw m.of.ensures at m.with_mode.ensures)
+
+-- LEFT: cast_with_mode : tie.Need-overflow-cast-with-mode
+-- unfolding allows against
+-- cast_with_mode c =
+--     let d = c.before in
+--     let a = d.before.before.args in
+--     let n = rw d.before.mode-allowed.ensures at d.refusal.ensures in
+--     let g = call_given (SetMode a.cycles a.page a.update) a.self d.refusal.result n c.if1.false in
+--     omega (arith, (mode_parts a.cycles a.page a.update g.allowed).0)

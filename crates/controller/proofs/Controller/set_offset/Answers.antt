@@ -1,0 +1,29 @@
+-- `controller::Controller::set_offset` meets its contract. Assumes nothing.
+use Rattle.std.proofs.Common.{◌∙◌, arith, rules, leb-true}
+use Rattle.controller.specs.Calls.{SetOffset, allows, against, effect}
+use Rattle.controller.specs.CallLaws.{call_given, call_refused, call_done}
+use Rattle.controller.proofs.Controller.set_offset.Goals as goal
+
+pub returns-then-n-ne-DONE : goal.returns-then-n-ne-DONE
+unfolding allows against
+returns-then-n-ne-DONE c =
+    let d = c in
+    let a = d.args in
+    c.controlled.ensures ∙ call_refused (SetOffset a.offset) a.self _ d.refusal-n.ensures c.if-n-ne-DONE.true
+
+pub returns : goal.returns
+unfolding allows against effect
+returns c =
+    let i = c in
+    let d = i in
+    let a = d.args in
+    c.controlled-2.ensures
+    ∙ call_done (SetOffset a.offset) a.self d.refusal-n.result d.refusal-n.ensures i.if-n-ne-DONE.false c.offset_set.ensures
+
+-- LEFT: cast_offset_set : tie.Need-overflow-cast-offset-set
+-- unfolding allows against
+-- cast_offset_set c =
+--     let d = c.before in
+--     let a = d.before.args in
+--     let g = call_given (SetOffset a.offset) a.self d.refusal.result d.refusal.ensures c.if1.false in
+--     omega (arith, leb-true a.offset 255 g.allowed)

@@ -1,0 +1,6 @@
+-- `host::linkshoar_palette_fresh` meets its contract. Assumes nothing.
+use borrow.Author.Rules.{rules}
+use Rattle.host.proofs.linkshoar_palette_fresh.Goals as goal
+
+pub returns : goal.returns
+returns c = c.fresh.ensures

@@ -1,0 +1,7 @@
+-- `host::linkshoar_panel_run` meets its contract. Assumes nothing.
+use Rattle.panel.specs.PartLaws.{eight_rule}
+use borrow.Author.Rules.{rules}
+use Rattle.host.proofs.linkshoar_panel_run.Goals as goal
+
+pub returns : goal.returns
+returns c = rw (← eight_rule) c.panel_run.ensures

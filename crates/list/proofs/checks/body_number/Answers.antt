@@ -1,0 +1,46 @@
+-- `list::checks::body_number` meets its contract. Assumes nothing.
+use mathlib.Core.Path.{◌∙◌}
+use native.Mathlib.Omega.{arith}
+use lib.Dec.{leb}
+use borrow.Author.Tests.{leb-true}
+use Rattle.numbers.specs.Between.{both}
+use Rattle.list.specs.TagLaws.{number_write, number_load, number_full, number_split, number_stop, number_none, number_reset, len_write, len_load, len_transfer, len_stop}
+use Rattle.list.proofs.checks.body_number.Goals as goal
+
+pub write_number-requires : goal.write_number-requires
+write_number-requires c =
+    let t = c in
+    t.requires ∙ len_write _ (omega (arith, leb-true t.args.tag 2 (both (leb 1 t.args.tag) (leb t.args.tag 2) c.if-tag.true).1))
+
+pub full_number-requires : goal.full_number-requires
+full_number-requires c = c.requires ∙ len_transfer _ (omega (arith, c.in-6.is)) (omega (arith, c.in-6.is))
+
+pub split_number-requires : goal.split_number-requires
+split_number-requires c = c.requires ∙ len_transfer _ (omega (arith, c.in-7.is)) (omega (arith, c.in-7.is))
+
+pub stop_number-requires : goal.stop_number-requires
+stop_number-requires c = c.requires ∙ len_stop _ c.in-9.is
+
+pub load_number-requires : goal.load_number-requires
+load_number-requires c = c.requires ∙ len_load _ c.if-tag-lt3.false c.if-tag-lt5.true
+
+pub returns-then-tag : goal.returns-then-tag
+returns-then-tag c = c.write_number.ensures ∙ number_write _ _ _ _ c.if-tag.true
+
+pub returns-in-6 : goal.returns-in-6
+returns-in-6 c = c.full_number.ensures ∙ number_full _ _ _ _ c.in-6.is
+
+pub returns-in-7 : goal.returns-in-7
+returns-in-7 c = c.split_number.ensures ∙ number_split _ _ _ _ c.in-7.is
+
+pub returns-in-9 : goal.returns-in-9
+returns-in-9 c = c.stop_number.ensures ∙ number_stop _ _ _ _ c.in-9.is
+
+pub returns-in-3 : goal.returns-in-3
+returns-in-3 c = c.load_number.ensures ∙ number_load _ _ _ _ c.if-tag-lt3.false c.if-tag-lt5.true
+
+pub returns-in_default : goal.returns-in_default
+returns-in_default c = number_none _ _ _ _ c.if-tag.false c.if-tag-lt3.true
+
+pub returns-in_default-2 : goal.returns-in_default-2
+returns-in_default-2 c = let r = c.in_default-1.is in number_reset _ _ _ _ c.if-tag-lt5.false r.0.0.1 r.0.1 r.1

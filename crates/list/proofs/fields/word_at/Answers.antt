@@ -1,0 +1,8 @@
+-- `list::fields::word_at` meets its contract. Assumes nothing.
+use Rattle.list.specs.Tags.{word}
+use borrow.Author.Rules.{rules}
+use Rattle.list.proofs.fields.word_at.Goals as goal
+
+pub returns : goal.returns
+unfolding word
+returns c = rw (c.wide.ensures.0, c.wide-2.ensures.0)

@@ -1,0 +1,44 @@
+-- `list::head_of` meets its contract. Assumes nothing.
+use mathlib.Core.Path.{sym, ap, ap₂, ◌∙◌}
+use mathlib.Core.List.{List}
+use Prim.Native.Nat.{ℕ, ◌+◌}
+use native.Mathlib.Omega.{arith}
+use Rattle.list.specs.declared.Head.TheVariants.{Whole}
+use Rattle.list.specs.Tags.{cycle_of}
+use Rattle.list.specs.Fields.{tag}
+use Rattle.list.specs.FieldLaws.{whole_length}
+use Rattle.list.specs.WaitsLaws.{settled_long}
+use Rattle.list.specs.HeadLaws.{head_waits, head_whole, head_wrong}
+use Rattle.list.proofs.Turns.{body_part}
+use borrow.Author.Rules.{rules}
+use Rattle.list.proofs.head_of.Goals as goal
+
+pub returns-then-waits : goal.returns-then-waits
+returns-then-waits c = sym (head_waits _ (sym c.waits.ensures ∙ c.if-waits.true))
+
+pub whole-requires : goal.whole-requires
+whole-requires c = omega (arith, settled_long _ (sym c.waits.ensures ∙ c.if-waits.false))
+
+pub bounds-bytes-0 : goal.bounds-bytes-0
+bounds-bytes-0 c =
+    let w = c in
+    omega (arith, whole_length _ (sym w.whole.ensures ∙ c.if-whole.true))
+
+pub returns-then-whole : goal.returns-then-whole
+returns-then-whole c =
+    let b = c in
+    let t = b in
+    let e = b.body_length-size.ensures.0 in
+    let s : List ℕ = t.args.bytes.now in
+    ap₂ Whole (c.cycle_of-cycle.ensures ∙ ap (cycle_of (tag s)) (body_part s b.body_length-size.result e)) (ap (λ (n : ℕ). 3 + n) e)
+    ∙ sym (head_whole s (sym t.whole.ensures ∙ t.if-whole.true))
+
+pub returns : goal.returns
+returns c =
+    let w = c in
+    sym (head_wrong _ (sym w.waits.ensures ∙ w.if-waits.false) (sym w.whole.ensures ∙ c.if-whole.false))
+
+-- LEFT: part_cycle_of_end : tie.Need-slice-bounds-cycle-of-end
+-- part_cycle_of_end c =
+--     let t = c.before.before in
+--     omega (arith, whole_length _ (sym t.before.whole.ensures ∙ t.if2.true), c.body_length.ensures.0)

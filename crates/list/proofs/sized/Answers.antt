@@ -1,0 +1,12 @@
+-- `list::sized` meets its contract. Assumes nothing.
+use mathlib.Core.Path.{sym}
+use native.Mathlib.Omega.{arith}
+use Rattle.list.specs.SplitLaws.{sized_is, sized_short}
+use borrow.Author.Rules.{rules}
+use Rattle.list.proofs.sized.Goals as goal
+
+pub returns-then-field-length : goal.returns-then-field-length
+returns-then-field-length c = sym (sized_short _ _ (omega (arith, c.if-field-length.true)))
+
+pub returns : goal.returns
+returns c = rw c.word_at.ensures (sym (sized_is _ _ (omega (arith, c.if-field-length.false))))

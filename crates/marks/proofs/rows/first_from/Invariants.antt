@@ -1,0 +1,15 @@
+-- `marks::rows::first_from` meets its contract. Assumes nothing.
+use mathlib.Core.Path.{◌≡◌, refl, sym, ap, ◌∙◌}
+use Prim.Native.Nat.{◌-◌, ◌≤◌}
+use native.Mathlib.Omega.{arith}
+use borrow.Author.Rules.{rules}
+use Rattle.marks.specs.Marks.{first_marked}
+use Rattle.marks.specs.NextLaws.{first_none}
+use Rattle.marks.proofs.Turns.{found, turn_row, turn_byte}
+use Rattle.marks.proofs.rows.first_from.Given as goal
+
+abbrev pub invariant-loop-row : goal.invariant-loop-row
+invariant-loop-row l = (l.row ≤ 512) × (first_marked l.marks l.row (512 - l.row) ≡ first_marked l.marks l.start (512 - l.start))
+
+abbrev pub decreases-loop-row : goal.decreases-loop-row
+decreases-loop-row l = 512 - l.row

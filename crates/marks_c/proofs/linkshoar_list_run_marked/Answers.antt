@@ -1,0 +1,20 @@
+-- `marks_c::linkshoar_list_run_marked` meets its contract. Assumes nothing.
+use mathlib.Core.Path.{sym, ◌∙◌}
+use Rattle.vram.specs.Board.{effect}
+use Rattle.marks_c.specs.CallLaws.{marked_excluded, marked_done}
+use borrow.Author.Rules.{rules}
+use Rattle.marks_c.proofs.linkshoar_list_run_marked.Goals as goal
+
+pub returns-then-lawful : goal.returns-then-lawful
+returns-then-lawful c =
+    let r = c in
+    let t = r in
+    let l = t in
+    let a = l.args in
+    marked_done effect a.state a.memory-1.now a.serial-1.now a.marks-1.now a.list.now (sym l.lawful.ensures ∙ t.if-lawful.true) t.take.result t.take.ensures
+    r.run-ran.result r.run-ran.new.1.0 r.run-ran.new.1.1.0 r.run-ran.new.1.1.1.0 r.run-ran.ensures c.hand_ran.result c.hand_ran.ensures
+
+pub returns : goal.returns
+returns c =
+    let a = c.args in
+    marked_excluded effect a.state a.memory-1.now a.serial-1.now a.marks-1.now a.list.now (sym c.lawful.ensures ∙ c.if-lawful.false)

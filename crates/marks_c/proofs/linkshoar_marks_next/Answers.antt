@@ -1,0 +1,22 @@
+-- `marks_c::linkshoar_marks_next` meets its contract. Assumes nothing.
+use mathlib.Core.Path.{sym}
+use Rattle.marks.specs.declared.Found.TheVariants.{None, Row}
+use Rattle.marks.specs.Calls.{values}
+use Rattle.marks.specs.CallLaws.{values_none, values_row}
+use Rattle.marks_c.specs.CallLaws.{next_handed}
+use borrow.Author.Rules.{rules}
+use Rattle.marks_c.proofs.linkshoar_marks_next.Goals as goal
+
+pub returns-in-None : goal.returns-in-None
+returns-in-None c =
+    let n = c in
+    let a = n.args in
+    next_handed a.marks.now a.start n.next-next.result n.next-next.ensures None c.enum_told-1.given.1 (values 0 0 0) (sym values_none)
+
+pub returns-in-Row : goal.returns-in-Row
+returns-in-Row c =
+    let f = c in
+    let n = f in
+    let a = n.args in
+    let r = f.found-1.given.0.0 in
+    next_handed a.marks.now a.start n.next-next.result n.next-next.ensures (Row r) f.found-1.given.1 (values 0 1 r) (sym (values_row r))

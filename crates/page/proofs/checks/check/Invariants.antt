@@ -1,0 +1,21 @@
+-- `page::checks::check` meets its contract. Assumes nothing.
+use mathlib.Core.Path.{◌≡◌, ap, sym, ◌∙◌}
+use mathlib.Core.Logic.{⊎_elim}
+use Prim.Native.Nat.{ℕ, ◌≤◌, ◌-◌}
+use native.Mathlib.Omega.{arith}
+use lib.ListN.{length}
+use Rattle.list.specs.declared.Bad.{Bad}
+use Rattle.page.specs.declared.Room.TheVariants.{Left}
+use Rattle.page.specs.Rectangles.{items}
+use Rattle.page.specs.Calls.{judged}
+use Rattle.page.proofs.Turns.{rest_less, rest_within, end_check, turn_bad, turn_fits, turn_good}
+use borrow.Author.Rules.{rules}
+use Rattle.page.proofs.checks.check.Given as goal
+
+abbrev pub invariant-loop-rest : goal.invariant-loop-rest
+invariant-loop-rest l =
+    (length l.rest ≤ length l.rectangles)
+    × (judged l.rows l.persistent l.left (length l.rectangles - length l.rest) (items l.rest) ≡ judged l.rows l.persistent (Left l.room) 0 (items l.rectangles))
+
+abbrev pub decreases-loop-rest : goal.decreases-loop-rest
+decreases-loop-rest l = length l.rest

@@ -1,0 +1,12 @@
+-- `page::checks::room_number` meets its contract. Assumes nothing.
+use Rattle.page.specs.Rooms.{room_number}
+use borrow.Author.Rules.{rules}
+use Rattle.page.proofs.checks.room_number.Goals as goal
+
+pub returns-in-Left : goal.returns-in-Left
+unfolding room_number
+returns-in-Left c = rw c.enum_told-1.given.1
+
+pub returns-in-Passed : goal.returns-in-Passed
+unfolding room_number
+returns-in-Passed c = rw c.enum_told-in-Passed-1.given.1

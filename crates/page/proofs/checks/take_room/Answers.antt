@@ -1,0 +1,16 @@
+-- `page::checks::take_room` meets its contract. Assumes nothing.
+use mathlib.Core.Path.{sym, ap, ◌∙◌}
+use Rattle.page.specs.declared.Room.{Room}
+use Rattle.page.specs.Rooms.{takes}
+use Rattle.page.specs.RoomLaws.{takes_fits, takes_over, takes_passed}
+use borrow.Author.Rules.{rules}
+use Rattle.page.proofs.checks.take_room.Goals as goal
+
+pub returns-then-n-left : goal.returns-then-n-left
+returns-then-n-left c = sym (ap (λ (r : Room). takes r c.args.n) c.room-1.given.1 ∙ takes_fits _ _ c.if-n-left.true)
+
+pub returns-else-n-left : goal.returns-else-n-left
+returns-else-n-left c = sym (ap (λ (r : Room). takes r c.args.n) c.room-1.given.1 ∙ takes_over _ _ c.if-n-left.false)
+
+pub returns-in-Passed : goal.returns-in-Passed
+returns-in-Passed c = sym (ap (λ (r : Room). takes r c.args.n) c.enum_told-1.given.1 ∙ takes_passed _)

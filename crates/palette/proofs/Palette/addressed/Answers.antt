@@ -1,0 +1,6 @@
+-- `palette::Palette::addressed` meets its contract. Assumes nothing.
+use Rattle.std.proofs.Common.{rules}
+use Rattle.palette.proofs.Palette.addressed.Goals as goal
+
+pub returns : goal.returns
+returns c = rw c.with_address.ensures at c.with_phase.ensures

@@ -1,0 +1,6 @@
+-- `palette::Palette::advanced` meets its contract. Assumes nothing.
+use Rattle.std.proofs.Common.{rules}
+use Rattle.palette.proofs.Palette.advanced.Goals as goal
+
+pub returns : goal.returns
+returns c = rw c.wrapping_add_u8.ensures at c.with_address.ensures

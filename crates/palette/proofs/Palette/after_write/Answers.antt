@@ -1,0 +1,40 @@
+-- `palette::Palette::after_write` meets its contract. Assumes nothing.
+use Rattle.std.proofs.Common.{rules, ne_eqb}
+use Rattle.palette.specs.Access.{after_write, table_after_write}
+use Rattle.palette.proofs.Palette.after_write.Goals as goal
+
+pub returns-in-0 : goal.returns-in-0
+unfolding after_write table_after_write
+returns-in-0 c = let k = c.in-0.is in record {
+  state = rw k c.addressed.ensures;
+  entry = rw k;
+}
+
+pub returns-in-1 : goal.returns-in-1
+unfolding after_write table_after_write
+returns-in-1 c =
+    let w = c in
+    let k = w.in-1.is in
+    record {
+  state = rw k w.coloured.ensures.0;
+  entry = rw k w.coloured.ensures.1;
+}
+
+pub returns-in-2 : goal.returns-in-2
+unfolding after_write table_after_write
+returns-in-2 c = let k = c.in-2.is in record {
+  state = rw k c.with_mask.ensures;
+  entry = rw k;
+}
+
+pub returns-in_default : goal.returns-in_default
+unfolding after_write table_after_write
+returns-in_default c =
+    let a = c in
+    let k = a.in_default.is in
+    let e = rw a.addressed-in_default.ensures at c.taken.ensures in
+    let n = ne_eqb _ _ k.0.1 in
+    record {
+  state = rw (ne_eqb _ _ k.0.0.1, n, ne_eqb _ _ k.1) e;
+  entry = rw n;
+}

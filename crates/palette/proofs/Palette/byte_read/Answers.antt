@@ -1,0 +1,16 @@
+-- `palette::Palette::byte_read` meets its contract. Assumes nothing.
+use Rattle.std.proofs.Common.{rules, ne_eqb}
+use Rattle.palette.specs.Access.{byte_read}
+use Rattle.palette.proofs.Palette.byte_read.Goals as goal
+
+pub returns-in-0 : goal.returns-in-0
+unfolding byte_read
+returns-in-0 c = rw c.in-0.is
+
+pub returns-in-1 : goal.returns-in-1
+unfolding byte_read
+returns-in-1 c = rw (c.in-1.is, c.register.ensures)
+
+pub returns-in_default : goal.returns-in_default
+unfolding byte_read
+returns-in_default c = rw (ne_eqb _ _ c.in_default.is.0.1, ne_eqb _ _ c.in_default.is.1)

@@ -1,0 +1,17 @@
+-- `panel::refusal` meets its contract. Assumes nothing.
+use mathlib.Core.Path.{ap, ◌∙◌}
+use Rattle.numbers.specs.RefuseLaws.{first_of_is}
+use Rattle.vram.specs.declared.Moved.{Moved}
+use Rattle.panel.specs.Calls.{run_refusal}
+use Rattle.vram.specs.CallLaws.{clocks_number}
+use borrow.Author.Rules.{rules}
+use Rattle.panel.proofs.refusal.Goals as goal
+
+pub returns : goal.returns
+unfolding run_refusal
+returns c =
+    let d = c in
+    let e = d in
+    let a = e.args in
+    let n = ap (λ (x : Moved). x.number) e.clocks-moved.ensures ∙ clocks_number a.state a.clocks-moved in
+    rw (c.ruled-2.ensures, c.ruled.ensures, d.refuse-n-3.ensures, d.refuse-n-2.ensures, first_of_is, n, d.refuse-n.ensures) at c.refuse.ensures

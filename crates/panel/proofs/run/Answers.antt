@@ -1,0 +1,7 @@
+-- `panel::run` meets its contract. Assumes nothing.
+use Rattle.panel.specs.PartLaws.{eight_rule}
+use borrow.Author.Rules.{rules}
+use Rattle.panel.proofs.run.Goals as goal
+
+pub returns : goal.returns
+returns c = rw (← eight_rule) c.run_at.ensures

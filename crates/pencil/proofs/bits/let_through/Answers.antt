@@ -1,0 +1,10 @@
+-- `pencil::bits::let_through` meets its contract. Assumes nothing.
+use mathlib.Core.Path.{sym, ◌∙◌}
+use Prim.Native.Nat.{◌%◌}
+use borrow.Author.Rules.{rules}
+use Rattle.words.specs.WordLaws.{lets_is}
+use Rattle.pencil.proofs.bits.let_through.Goals as goal
+
+-- first, so that a wrong bit is refused for its value and not for a sum's width
+pub returns : goal.returns
+returns c = c.has.ensures ∙ sym (lets_is c.args.columns (c.args.column % 4) c.args.b)

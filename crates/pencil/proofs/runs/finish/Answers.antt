@@ -1,0 +1,18 @@
+-- `pencil::runs::finish` meets its contract. Assumes nothing.
+use Rattle.vram.specs.Board.{board}
+use Rattle.list.specs.OutLaws.{refused_out, done_out}
+use Rattle.pencil.specs.Pencil.{pencil}
+use borrow.Author.Rules.{rules}
+use Rattle.pencil.proofs.runs.finish.Goals as goal
+
+pub returns-then-bad-ne-DONE : goal.returns-then-bad-ne-DONE
+returns-then-bad-ne-DONE c =
+    let a = c.args in
+    refused_out pencil a.list.now (board a.state a.memory-1.now a.serial-1.now) a.bad c.if-bad-ne-DONE.true
+
+pub returns : goal.returns
+returns c =
+    let r = c in
+    let e = r in
+    let a = e.args in
+    done_out pencil a.list.now (board a.state a.memory-1.now a.serial-1.now) a.bad e.if-bad-ne-DONE.false _ r.run_fields-after.ensures

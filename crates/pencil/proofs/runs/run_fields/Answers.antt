@@ -1,0 +1,67 @@
+-- `pencil::runs::run_fields` meets its contract: one turn of the loop is one cycle run. Assumes nothing.
+use mathlib.Core.Path.{◌≡◌, refl, ◌∙◌}
+use lib.ListN.{length}
+use Rattle.vram.specs.Board.{board}
+use Rattle.vram.specs.Step.{step_by, run_by}
+use Rattle.list.specs.Meaning.{cycles_of}
+use Rattle.pencil.specs.Pencil.{pencil}
+use Rattle.pencil.proofs.Turns.{over_waits, over_wrong, field_fits, rest_less, turn_run}
+use borrow.Author.Rules.{rules}
+use Rattle.pencil.proofs.runs.run_fields.Goals as goal
+
+pub loop-cycle-init : goal.loop-cycle-init
+loop-cycle-init c = (refl, refl, refl)
+
+pub loop-cycle-smaller : goal.loop-cycle-smaller
+loop-cycle-smaller c =
+    let h = c in
+    let o = h in
+    rest_less o.loop-cycle.rest.now o.head_of-head.result o.head_of-head.ensures h.head-1.given.0.0 h.head-1.given.0.1.0 h.head-1.given.1
+
+pub loop-cycle-preserved : goal.loop-cycle-preserved
+loop-cycle-preserved c =
+    let k = c in
+    let h = k in
+    let o = h in
+    let l = o.loop-cycle in (
+      k.step-current.auto.1.0 ∙ l.invariant.0,
+      k.step-current.auto.1.1.0 ∙ l.invariant.1,
+      turn_run l.rest-1.now o.head_of-head.result o.head_of-head.ensures h.head-1.given.0.0 h.head-1.given.0.1.0 h.head-1.given.1 _ _ k.step-current.ensures
+          ∙ l.invariant.2,
+    )
+
+pub shape_of-memory-in-Waits : goal.shape_of-memory-in-Waits
+shape_of-memory-in-Waits c = c.loop-cycle.invariant.0
+
+pub shape_of-serial-in-Waits : goal.shape_of-serial-in-Waits
+shape_of-serial-in-Waits c = c.loop-cycle.invariant.1
+
+pub returns-in-Waits : goal.returns-in-Waits
+returns-in-Waits c =
+    let o = c in
+    let l = o.loop-cycle in
+    over_waits l.rest-1.now o.head_of-head.result o.head_of-head.ensures c.enum_told-1.given.1 _ ∙ l.invariant.2
+
+pub shape_of-memory-in-Wrong : goal.shape_of-memory-in-Wrong
+shape_of-memory-in-Wrong c = c.loop-cycle.invariant.0
+
+pub shape_of-serial-in-Wrong : goal.shape_of-serial-in-Wrong
+shape_of-serial-in-Wrong c = c.loop-cycle.invariant.1
+
+pub returns-in-Wrong : goal.returns-in-Wrong
+returns-in-Wrong c =
+    let o = c in
+    let l = o.loop-cycle in
+    over_wrong l.rest-1.now o.head_of-head.result o.head_of-head.ensures c.enum_told-in-Wrong-1.given.1 _ ∙ l.invariant.2
+
+-- LEFT: sub_rest : tie.Need-overflow-sub-rest invariant-loop decreases-loop
+-- sub_rest c =
+--     let h = c.before.before.before.before.before.before.before.before in
+--     let o = h.before.before in
+--     (field_fits o.before.loop.rest.now o.head_of.result o.head_of.ensures h.head.given.0.0 h.head.given.0.1.0 h.head.given.1).1
+
+-- LEFT: part_rest_start : tie.Need-slice-bounds-rest-start invariant-loop decreases-loop
+-- part_rest_start c =
+--     let h = c.before.before.before.before.before.before.before.before in
+--     let o = h.before.before in
+--     (field_fits o.before.loop.rest.now o.head_of.result o.head_of.ensures h.head.given.0.0 h.head.given.0.1.0 h.head.given.1).1

@@ -1,0 +1,27 @@
+-- `pieces::bytes::come` meets its contract. Assumes nothing.
+use mathlib.Core.Path.{sym, ◌∙◌}
+use native.Mathlib.Omega.{arith}
+use Rattle.pieces.specs.Line.{limit}
+use Rattle.pieces.specs.ByteLaws.{come_holds, come_moves}
+use borrow.Author.Rules.{rules}
+use Rattle.pieces.proofs.bytes.come.Goals as goal
+
+pub meet_held-f-requires : goal.meet_held-f-requires
+meet_held-f-requires c = (c.requires.0.few, c.requires.1)
+
+pub returns-then-f : goal.returns-then-f
+returns-then-f c =
+    let m = c.meet_held-f.ensures in
+    come_holds _ _ _ _ _ c.requires.0 _ _ _ _ m.1 (sym m.0 ∙ c.if-f.true)
+
+pub returns : goal.returns
+returns c =
+    let m = c.meet_held-f.ensures in
+    come_moves _ _ _ _ _ c.requires.0 _ _ _ _ m.1 (sym m.0 ∙ c.if-f.false) _ c.standing-pieces.ensures
+
+-- LEFT: add_standing : tie.Need-overflow-add-standing
+-- unfolding limit
+-- add_standing c =
+--     let m = c.before.before.before.before.before.before.before.meet-held.ensures in
+--     let k = c.before.before.before.before.before.before.before.before.before.before.before.before.before.requires.0 in
+--     omega (arith, m.1.inside, k.size, k.fits)

@@ -1,0 +1,6 @@
+-- `pieces::fresh` meets its contract. Assumes nothing.
+use borrow.Author.Rules.{rules}
+use Rattle.pieces.proofs.fresh.Goals as goal
+
+pub returns : goal.returns
+returns c = c.standing.ensures

@@ -1,0 +1,6 @@
+-- `pieces::rule::before` meets its contract. Assumes nothing.
+use borrow.Author.Rules.{rules}
+use Rattle.pieces.proofs.rule.before.Goals as goal
+
+pub returns-in-At : goal.returns-in-At
+returns-in-At c = rw c.left-1.given.1

@@ -1,0 +1,60 @@
+-- `pieces::whole::take_all` meets its contract: each turn goes some of the way. Assumes nothing.
+use mathlib.Core.Path.{◌≡◌, refl, ◌∙◌}
+use native.Mathlib.Omega.{arith}
+use Prim.Native.Nat.{◌-◌}
+use lib.ListN.{length, length-drop}
+use Rattle.numbers.specs.BufferLaws.{tail_part}
+use Rattle.vram.specs.Board.{board}
+use Rattle.pieces.specs.Turns.{Along}
+use Rattle.pieces.specs.AlongLaws.{along_none, along_on, along_end}
+use borrow.Author.Rules.{rules}
+use Rattle.pieces.proofs.whole.take_all.Goals as goal
+
+pub loop-used-init : goal.loop-used-init
+loop-used-init c = let p = c.requires in (refl, refl, along_none _ _ _ p.0 p.1)
+
+pub advance-f-requires : goal.advance-f-requires
+advance-f-requires c =
+    let l = c.loop-used in
+    let a = l.invariant.2 in
+    (a.sound, a.given, rw (tail_part _ l.used, length-drop) (omega (arith, c.loop-used-test.true)))
+
+pub loop-used-smaller : goal.loop-used-smaller
+loop-used-smaller c =
+    let l = c.loop-used in
+    let t = c.args.bytes.now in
+    let f = c.advance-f.ensures in
+    let o = along_on _ _ t _ _ l.used l.invariant.2 _ (tail_part t l.used) _ _ _ f.0 in
+    omega (arith, o.inside, f.1)
+
+pub loop-used-preserved : goal.loop-used-preserved
+loop-used-preserved c =
+    let l = c.loop-used in
+    let t = c.args.bytes.now in
+    let f = c.advance-f in (
+      f.auto.1.1.0 ∙ l.invariant.0,
+      f.auto.1.1.1.0 ∙ l.invariant.1,
+      along_on _ _ t _ _ l.used l.invariant.2 _ (tail_part t l.used) _ _ _ f.ensures.0,
+    )
+
+pub shape_of-memory : goal.shape_of-memory
+shape_of-memory c = c.loop-used.invariant.0
+
+pub shape_of-serial : goal.shape_of-serial
+shape_of-serial c = c.loop-used.invariant.1
+
+pub returns : goal.returns
+returns c = let l = c.loop-used in along_end _ _ _ _ _ l.used l.invariant.2 c.loop-used-test.false
+
+-- LEFT: sub_advance : tie.Need-overflow-sub-advance invariant-loop decreases-loop
+-- sub_advance c = c.before.before.before.loop.invariant.2.inside
+
+-- LEFT: part_advance_start : tie.Need-slice-bounds-advance-start invariant-loop decreases-loop
+-- part_advance_start c = c.before.before.before.loop.invariant.2.inside
+
+-- LEFT: add_used : tie.Need-overflow-add-used invariant-loop decreases-loop
+-- add_used c =
+--     let l = c.before.before.before.before.before.before.before.before.before.before.before.before.loop in
+--     let t = c.before.before.before.before.before.before.before.before.before.before.before.before.before.before.before.before.args.bytes.now in
+--     let o = along_on _ _ t _ _ l.used l.invariant.2 _ (tail_part t l.used) _ _ _ c.before.before.before.before.before.before.before.advance.ensures.0 in
+--     omega (arith, o.inside, c.before.before.before.before.before.before.before.before.before.before.before.before.before.before.before.before.well-formed)

@@ -1,0 +1,19 @@
+-- `pieces::whole::take_all` meets its contract: each turn goes some of the way. Assumes nothing.
+use mathlib.Core.Path.{◌≡◌, refl, ◌∙◌}
+use native.Mathlib.Omega.{arith}
+use Prim.Native.Nat.{◌-◌}
+use lib.ListN.{length, length-drop}
+use Rattle.numbers.specs.BufferLaws.{tail_part}
+use Rattle.vram.specs.Board.{board}
+use Rattle.pieces.specs.Turns.{Along}
+use Rattle.pieces.specs.AlongLaws.{along_none, along_on, along_end}
+use borrow.Author.Rules.{rules}
+use Rattle.pieces.proofs.whole.take_all.Given as goal
+
+abbrev pub invariant-loop-used : goal.invariant-loop-used
+invariant-loop-used l =
+    (length l.memory ≡ length l.initial.memory) × (length l.serial ≡ length l.initial.serial)
+    × Along l.initial.pieces (board l.initial.current l.initial.memory l.initial.serial) l.bytes l.pieces (board l.current l.memory l.serial) l.used
+
+abbrev pub decreases-loop-used : goal.decreases-loop-used
+decreases-loop-used l = length l.bytes - l.used

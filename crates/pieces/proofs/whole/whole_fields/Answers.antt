@@ -1,0 +1,129 @@
+-- `pieces::whole::whole_fields` meets its contract: one turn of the loop is one field. Assumes nothing.
+use mathlib.Core.Path.{◌≡◌, refl, sym, ap, ◌∙◌}
+use mathlib.Core.Bool.{true}
+use mathlib.Core.List.{[]}
+use native.Mathlib.Omega.{arith}
+use Prim.Native.Nat.{◌-◌, ◌≤◌}
+use lib.ListN.{length, drop}
+use Rattle.numbers.specs.BufferLaws.{tail_part}
+use Rattle.vram.specs.declared.Vram.{Vram}
+use Rattle.vram.specs.Board.{board}
+use Rattle.vram.specs.Step.{given_of}
+use Rattle.pieces.specs.Line.{line, port, limit, piece}
+use Rattle.pieces.specs.Pieces.{possible}
+use Rattle.pieces.specs.AlongLaws.{come_along, turn_inside, stay_possible, stay_same, turn_possible, turn_same, turn_some, turn_again}
+use borrow.Author.Rules.{rules}
+use Rattle.pieces.proofs.whole.whole_fields.Goals as goal
+
+pub loop-at-init : goal.loop-at-init
+loop-at-init c = let p = c.requires in (refl, refl, omega arith, p.0, p.1, refl)
+
+pub shape_of-memory-then-at-gt-SAFE : goal.shape_of-memory-then-at-gt-SAFE
+shape_of-memory-then-at-gt-SAFE c = c.loop-at.invariant.0
+
+pub shape_of-serial-then-at-gt-SAFE : goal.shape_of-serial-then-at-gt-SAFE
+shape_of-serial-then-at-gt-SAFE c = c.loop-at.invariant.1
+
+pub returns-then-at-gt-SAFE : goal.returns-then-at-gt-SAFE
+returns-then-at-gt-SAFE c =
+    let l = c.loop-at in
+    let e = c.reached.ensures in
+    come_along _ _ _ (line [] l.at 0 l.opened) _ _ _ _ l.used l.invariant.3 l.invariant.4 l.invariant.2 l.invariant.5 e.0
+    (ap (λ (s : Vram). board s l.memory-1 l.serial-1) e.1) e.2
+
+pub meet-f-requires : goal.meet-f-requires
+meet-f-requires c = c.loop-at.invariant.4
+
+pub shape_of-memory-then-f : goal.shape_of-memory-then-f
+shape_of-memory-then-f c = c.meet-f.auto.1.1.1.0 ∙ c.loop-at.invariant.0
+
+pub shape_of-serial-then-f : goal.shape_of-serial-then-f
+shape_of-serial-then-f c = c.meet-f.auto.1.1.1.1.0 ∙ c.loop-at.invariant.1
+
+pub returns-then-f : goal.returns-then-f
+returns-then-f c =
+    let l = c.loop-at in
+    let t = c.args.bytes.now in
+    let f = c.meet-f in
+    let m = f.ensures in
+    let w = sym m.0 ∙ c.if-f.true in
+    let e = c.reached-then-f.ensures in
+    let part = tail_part t l.used in
+    come_along _ _ _ (line [] l.at 0 f.result.left) _ _ _ _ l.used
+    (stay_possible t l.used _ part l.invariant.2 l.at l.opened _ l.invariant.3 _ _ _ _ m.1 w)
+    m.1.given l.invariant.2
+    (stay_same t l.used _ part l.invariant.2 l.at l.opened _ l.invariant.3 _ _ _ _ m.1 w ∙ l.invariant.5)
+    e.0 (ap (λ (s : Vram). board s f.new.1.1.1.0 f.new.1.1.1.1.0) e.1) e.2
+
+pub shape_of-memory-then-f-ne-DONE : goal.shape_of-memory-then-f-ne-DONE
+shape_of-memory-then-f-ne-DONE c = c.meet-f.auto.1.1.1.0 ∙ c.loop-at.invariant.0
+
+pub shape_of-serial-then-f-ne-DONE : goal.shape_of-serial-then-f-ne-DONE
+shape_of-serial-then-f-ne-DONE c = c.meet-f.auto.1.1.1.1.0 ∙ c.loop-at.invariant.1
+
+pub returns-then-f-ne-DONE : goal.returns-then-f-ne-DONE
+unfolding limit
+returns-then-f-ne-DONE c =
+    let l = c.loop-at in
+    let t = c.args.bytes.now in
+    let f = c.meet-f in
+    let m = f.ensures in
+    let w = sym m.0 ∙ c.if-f.false in
+    let e = c.reached-then-f-ne-DONE.ensures in
+    let part = tail_part t l.used in
+    let near = c.if-at-gt-SAFE.false in
+    come_along _ _ _ _ _ _ _ _ _
+    (turn_possible t l.used _ part l.invariant.2 l.at l.opened _ l.invariant.3 _ _ _ _ m.1 w (omega (arith, near)))
+    m.1.given (turn_inside t l.used _ part l.invariant.2 l.at l.opened _ l.invariant.3 _ _ _ _ m.1)
+    (turn_same t l.used _ part l.invariant.2 l.at l.opened _ l.invariant.3 _ _ _ _ m.1 w (omega (arith, near)) ∙ l.invariant.5)
+    e.0 (ap (λ (s : Vram). board s f.new.1.1.1.0 f.new.1.1.1.1.0) e.1) e.2
+
+pub loop-at-smaller : goal.loop-at-smaller
+unfolding limit
+loop-at-smaller c =
+    let l = c.loop-at in
+    let t = c.args.bytes.now in
+    let m = c.meet-f.ensures in
+    let w = sym m.0 ∙ c.if-f.false in
+    let part = tail_part t l.used in
+    let near = c.if-at-gt-SAFE.false in
+    omega
+    (arith, turn_inside t l.used _ part l.invariant.2 l.at l.opened _ l.invariant.3 _ _ _ _ m.1, turn_some t l.used _ part l.invariant.2 l.at l.opened _ l.invariant.3 _ _ _ _ m.1 w (omega (arith, near)) c.if-f-ne-DONE.false)
+
+pub loop-at-preserved : goal.loop-at-preserved
+unfolding limit
+loop-at-preserved c =
+    let l = c.loop-at in
+    let t = c.args.bytes.now in
+    let f = c.meet-f in
+    let m = f.ensures in
+    let w = sym m.0 ∙ c.if-f.false in
+    let part = tail_part t l.used in
+    let near = c.if-at-gt-SAFE.false in
+    let o = turn_again t l.used _ part l.invariant.2 l.at l.opened _ l.invariant.3 _ _ _ _ m.1 w (omega (arith, near)) c.if-f-ne-DONE.false in (
+      f.auto.1.1.1.0 ∙ l.invariant.0,
+      f.auto.1.1.1.1.0 ∙ l.invariant.1,
+      turn_inside t l.used _ part l.invariant.2 l.at l.opened _ l.invariant.3 _ _ _ _ m.1,
+      o.0,
+      m.1.given,
+      o.1 ∙ l.invariant.5,
+    )
+
+-- LEFT: sub_meet : tie.Need-overflow-sub-meet invariant-loop decreases-loop
+-- sub_meet c = c.before.before.before.loop.invariant.2
+
+-- LEFT: part_meet_start : tie.Need-slice-bounds-meet-start invariant-loop decreases-loop
+-- part_meet_start c = c.before.before.before.loop.invariant.2
+
+-- LEFT: cast_at : tie.Need-overflow-cast-at invariant-loop decreases-loop
+-- cast_at c = omega (arith, c.before.before.before.before.before.before.before.meet.ensures.1.most)
+
+-- LEFT: add_at : tie.Need-overflow-add-at invariant-loop decreases-loop
+-- add_at c = omega (arith, c.before.before.before.before.before.before.before.meet.ensures.1.most, c.before.before.before.before.before.before.before.before.before.before.before.if1.false)
+
+-- LEFT: add_used : tie.Need-overflow-add-used invariant-loop decreases-loop
+-- add_used c =
+--     let l = c.before.before.before.before.before.before.before.before.before.before.before.before.before.loop in
+--     let t = c.before.before.before.before.before.before.before.before.before.before.before.before.before.before.before.before.before.args.bytes.now in
+--     omega
+--     (arith, turn_inside t l.used _ (tail_part t l.used) l.invariant.2 l.at l.opened _ l.invariant.3 _ _ _ _ c.before.before.before.before.before.before.before.before.meet.ensures.1, c.before.before.before.before.before.before.before.before.before.before.before.before.before.before.before.before.before.well-formed)

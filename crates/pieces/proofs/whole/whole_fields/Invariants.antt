@@ -1,0 +1,25 @@
+-- `pieces::whole::whole_fields` meets its contract: one turn of the loop is one field. Assumes nothing.
+use mathlib.Core.Path.{◌≡◌, refl, sym, ap, ◌∙◌}
+use mathlib.Core.Bool.{true}
+use mathlib.Core.List.{[]}
+use native.Mathlib.Omega.{arith}
+use Prim.Native.Nat.{◌-◌, ◌≤◌}
+use lib.ListN.{length, drop}
+use Rattle.numbers.specs.BufferLaws.{tail_part}
+use Rattle.vram.specs.declared.Vram.{Vram}
+use Rattle.vram.specs.Board.{board}
+use Rattle.vram.specs.Step.{given_of}
+use Rattle.pieces.specs.Line.{line, port, limit, piece}
+use Rattle.pieces.specs.Pieces.{possible}
+use Rattle.pieces.specs.AlongLaws.{come_along, turn_inside, stay_possible, stay_same, turn_possible, turn_same, turn_some, turn_again}
+use borrow.Author.Rules.{rules}
+use Rattle.pieces.proofs.whole.whole_fields.Given as goal
+
+abbrev pub invariant-loop-at : goal.invariant-loop-at
+invariant-loop-at l =
+    (length l.memory ≡ length l.initial.memory) × (length l.serial ≡ length l.initial.serial) × (l.used ≤ length l.bytes) × (possible (line [] l.at 0 l.opened) ≡ true)
+    × (given_of (board l.current l.memory l.serial) ≡ 0)
+    × (piece (port (line [] l.at 0 l.opened) (board l.current l.memory l.serial)) (drop l.used l.bytes) ≡ piece (port (line [] l.start 0 l.initial.opened) (board l.initial.current l.initial.memory l.initial.serial)) l.bytes)
+
+abbrev pub decreases-loop-at : goal.decreases-loop-at
+decreases-loop-at l = length l.bytes - l.used

@@ -1,0 +1,6 @@
+-- `pieces_c::line::excluded` meets its contract. Assumes nothing.
+use mathlib.Core.Path.{refl}
+use Rattle.pieces_c.proofs.line.excluded.Goals as goal
+
+pub returns : goal.returns
+returns c = refl

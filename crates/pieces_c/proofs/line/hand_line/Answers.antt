@@ -1,0 +1,12 @@
+-- `pieces_c::line::hand_line` meets its contract. Assumes nothing.
+use borrow.Author.Rules.{rules}
+use Rattle.pieces_c.specs.Line.{handed_line}
+use Rattle.pieces_c.proofs.line.hand_line.Goals as goal
+
+pub returns-in-None : goal.returns-in-None
+unfolding handed_line
+returns-in-None c = rw c.enum_told-1.given.1
+
+pub returns-in-At : goal.returns-in-At
+unfolding handed_line
+returns-in-At c = rw c.left-1.given.1

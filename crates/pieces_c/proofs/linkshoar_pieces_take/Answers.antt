@@ -1,0 +1,19 @@
+-- `pieces_c::linkshoar_pieces_take` meets its contract. Assumes nothing.
+use mathlib.Core.Path.{sym, ap, ◌∙◌}
+use Rattle.pieces_c.specs.declared.Taken.{Taken}
+use Rattle.pieces_c.specs.Calls.{answered}
+use Rattle.pieces_c.specs.CallLaws.{take_excluded, take_done}
+use borrow.Author.Rules.{rules}
+use Rattle.pieces_c.proofs.linkshoar_pieces_take.Goals as goal
+
+pub returns-then-both_lawful : goal.returns-then-both_lawful
+returns-then-both_lawful c =
+    let e = sym c.both_lawful.ensures ∙ c.if-both_lawful.true in
+    let t = c.take-taken in
+    take_done _ _ _ _ e _ c.take.ensures _ c.take_line.ensures t.result t.new.1.1.0 t.new.1.1.1.0 _ c.hand_taken.ensures _
+    t.ensures
+
+pub returns : goal.returns
+returns c =
+    let a = c.args in
+    ap (λ (r : Taken). answered r a.memory-1.now a.serial-1.now) c.excluded.ensures ∙ sym (take_excluded _ _ _ _ (sym c.both_lawful.ensures ∙ c.if-both_lawful.false) _)

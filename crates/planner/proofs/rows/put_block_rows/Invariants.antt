@@ -1,0 +1,22 @@
+-- `planner::rows::put_block_rows` meets its contract. The invariant: `o` stands after i rows, and those are stored. Assumes nothing.
+use borrow.Author.Rules.{rules}
+use mathlib.Core.Path.{◌≡◌, refl, sym, ap, ap₂, ◌∙◌}
+use mathlib.Core.List.{List}
+use Prim.Native.Nat.{ℕ, ◌+◌, ◌-◌, ◌*◌, ◌≤◌}
+use native.Mathlib.Nat.{mul-le-mul_right}
+use native.Mathlib.Omega.{arith}
+use lib.ListN.{length}
+use lib.Seq.{sets, length-sets}
+use Rattle.planner.specs.Bytes.{block_row, block_rows}
+use Rattle.planner.specs.BytesLaws.{block_rows_none, block_rows_more}
+use Rattle.planner.proofs.rows.put_block_rows.Given as goal
+
+abbrev pub invariant-loop-i : goal.invariant-loop-i
+invariant-loop-i l =
+    (l.i ≤ l.height)
+    × (l.o ≡ 6 + l.i * (13 * l.n))
+    × (length l.list ≡ length l.initial.list)
+    × (l.list ≡ sets l.initial.list 6 (block_rows l.block l.first l.last l.mask l.n l.row l.i))
+
+abbrev pub decreases-loop-i : goal.decreases-loop-i
+decreases-loop-i l = l.height - l.i

@@ -1,0 +1,22 @@
+-- `planner::rows::put_word_rows` meets its contract. The invariant: `o` stands after i rows, and those are stored. Assumes nothing.
+use borrow.Author.Rules.{rules}
+use mathlib.Core.Path.{◌≡◌, refl, sym, ap, ap₂, ◌∙◌}
+use mathlib.Core.List.{List}
+use Prim.Native.Nat.{ℕ, ◌+◌, ◌-◌, ◌*◌, ◌≤◌}
+use native.Mathlib.Nat.{mul-le-mul_right}
+use native.Mathlib.Omega.{arith}
+use lib.ListN.{length}
+use lib.Seq.{sets, length-sets}
+use Rattle.planner.specs.Bytes.{row_bytes, word_rows}
+use Rattle.planner.specs.BytesLaws.{word_rows_none, word_rows_more}
+use Rattle.planner.proofs.rows.put_word_rows.Given as goal
+
+abbrev pub invariant-loop-i : goal.invariant-loop-i
+invariant-loop-i l =
+    (l.i ≤ l.height)
+    × (l.o ≡ l.i * (13 * l.width))
+    × (length l.list ≡ length l.initial.list)
+    × (l.list ≡ sets l.initial.list 0 (word_rows l.column l.width l.colour l.mask l.row l.i))
+
+abbrev pub decreases-loop-i : goal.decreases-loop-i
+decreases-loop-i l = l.height - l.i

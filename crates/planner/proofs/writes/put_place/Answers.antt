@@ -1,0 +1,22 @@
+-- `planner::writes::put_place` meets its contract. Assumes nothing.
+use borrow.Author.Rules.{rules}
+use native.Mathlib.Omega.{arith}
+use lib.ListN.{length-set}
+use mathlib.Core.List.{[], ◌∷◌}
+use Prim.Native.Nat.{◌/◌, ◌%◌}
+use Rattle.numbers.specs.BufferLaws.{stores_sets}
+use Rattle.planner.proofs.writes.put_place.Goals as goal
+
+pub bounds-list-at-2 : goal.bounds-list-at-2
+bounds-list-at-2 c = simp length-set (omega arith)
+
+pub bounds-list-at-3 : goal.bounds-list-at-3
+bounds-list-at-3 c = simp length-set (omega arith)
+
+pub bounds-list-at-4 : goal.bounds-list-at-4
+bounds-list-at-4 c = simp length-set (omega arith)
+
+pub returns : goal.returns
+returns c =
+    let a = c.args in
+    stores_sets (a.place / 16777216) a.list.now (a.place / 65536 % 256 ∷ a.place / 256 % 256 ∷ a.place % 256 ∷ []) a.at

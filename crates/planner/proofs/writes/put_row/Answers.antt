@@ -1,0 +1,55 @@
+-- `planner::writes::put_row` meets its contract. The invariant: `o` and `place` stand after i writes, and those are stored.
+-- Assumes nothing.
+use mathlib.Core.Path.{◌≡◌, refl, sym, ap, ap₂, ◌∙◌}
+use mathlib.Core.List.{List}
+use Prim.Native.Nat.{ℕ, ◌+◌, ◌-◌, ◌*◌, ◌≤◌}
+use native.Mathlib.Omega.{arith}
+use native.Mathlib.Nat.{mul-add, mul-one}
+use lib.ListN.{length}
+use lib.Seq.{sets, length-sets}
+use Rattle.planner.specs.Bytes.{write_at, row_bytes}
+use Rattle.planner.specs.BytesLaws.{row_none, row_more}
+use Rattle.planner.proofs.writes.put_row.Goals as goal
+
+pub loop-i-init : goal.loop-i-init
+loop-i-init c =
+    let a = c.args in
+    (omega arith, omega arith, omega arith, omega arith, refl, ap (sets a.list-1.now a.at) (sym (row_none a.tag a.first a.step a.value a.mask)))
+
+pub put_write-requires : goal.put_write-requires
+put_write-requires c = omega arith
+
+pub loop-i-smaller : goal.loop-i-smaller
+loop-i-smaller c = omega arith
+
+pub loop-i-preserved : goal.loop-i-preserved
+loop-i-preserved c =
+    let w = c.put_write in
+    let k = c.loop-i in
+    let a = c.args in
+    let e : a.step * (k.i + 1) ≡ a.step * k.i + a.step = mul-add a.step k.i 1 ∙ ap (λ (x : ℕ). a.step * k.i + x) (mul-one a.step) in
+    let f : w.new.0 ≡ sets a.list-1.now a.at (row_bytes a.tag a.first a.step a.value a.mask (k.i + 1)) =
+    w.ensures
+    ∙ ap₂ (λ (l : List ℕ) (o : ℕ). sets l o (write_at a.tag k.place a.value a.mask)) k.invariant.5 k.invariant.1
+    ∙ ap (λ (p : ℕ). sets (sets a.list-1.now a.at (row_bytes a.tag a.first a.step a.value a.mask k.i)) (a.at + k.i * 13) (write_at a.tag p a.value a.mask)) k.invariant.3
+    ∙ row_more a.tag a.first a.step a.value a.mask a.list-1.now a.at k.i in
+    (omega arith, omega arith, omega arith, omega arith, ap length f ∙ length-sets a.list-1.now a.at (row_bytes a.tag a.first a.step a.value a.mask (k.i + 1)), f)
+
+pub shape_of-list : goal.shape_of-list
+shape_of-list c = c.loop-i.invariant.4
+
+pub returns : goal.returns
+returns c =
+    let k = c.loop-i in
+    let a = c.args in
+    let e : k.i ≡ a.n = omega arith in
+    k.invariant.5 ∙ ap (λ (i : ℕ). sets a.list-1.now a.at (row_bytes a.tag a.first a.step a.value a.mask i)) e
+
+-- LEFT: add_o : tie.Need-overflow-add-o invariant-loop decreases-loop
+-- add_o c = omega arith
+
+-- LEFT: add_i : tie.Need-overflow-add-i invariant-loop decreases-loop
+-- add_i c = omega arith
+
+-- LEFT: add_place : tie.Need-overflow-add-place invariant-loop decreases-loop
+-- add_place c = omega arith

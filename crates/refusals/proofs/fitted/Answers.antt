@@ -1,0 +1,6 @@
+-- `refusals::fitted` meets its contract. Assumes nothing.
+use mathlib.Core.Path.{refl}
+use Rattle.refusals.proofs.fitted.Goals as goal
+
+pub returns : goal.returns
+returns c = refl

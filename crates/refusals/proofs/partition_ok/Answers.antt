@@ -1,0 +1,6 @@
+-- `refusals::partition_ok` meets its contract. Assumes nothing.
+use mathlib.Core.Path.{refl}
+use Rattle.refusals.proofs.partition_ok.Goals as goal
+
+pub returns : goal.returns
+returns c = refl

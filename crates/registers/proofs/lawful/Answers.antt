@@ -1,0 +1,8 @@
+-- `registers::lawful` meets its contract. Assumes nothing.
+use borrow.Author.Rules.{rules}
+use Rattle.registers.specs.State.{lawful}
+use Rattle.registers.proofs.lawful.Goals as goal
+
+pub returns : goal.returns
+unfolding lawful
+returns c = rw c.partition_ok.ensures

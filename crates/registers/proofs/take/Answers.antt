@@ -1,0 +1,8 @@
+-- `registers::take` meets its contract. Assumes nothing.
+use borrow.Author.Rules.{rules}
+use Rattle.registers.specs.State.{taken}
+use Rattle.registers.proofs.take.Goals as goal
+
+pub returns : goal.returns
+unfolding taken
+returns c = rw (c.waiting_of-waiting.ensures, c.of-stop.ensures)

@@ -1,0 +1,18 @@
+-- `report::text::put_words` meets its contract: one word more at each turn. Assumes nothing.
+use mathlib.Core.Path.{subst}
+use mathlib.Core.Path.{◌≡◌, refl}
+use mathlib.Core.List.{List}
+use Prim.Native.Nat.{ℕ, ◌≤◌, ◌-◌}
+use native.Mathlib.Omega.{arith}
+use borrow.Author.Rules.{rules}
+use lib.ListN.{length, take}
+use lib.Seq.{take_all}
+use Rattle.report.specs.Text.{word_lines, Put}
+use Rattle.report.specs.TextLaws.{put_nothing, put_size, lines_most, put_lines}
+use Rattle.report.proofs.text.put_words.Given as goal
+
+abbrev pub invariant-loop-i : goal.invariant-loop-i
+invariant-loop-i l = (l.i ≤ length l.memory) × Put l.initial.text l.at (word_lines 0 (take l.i l.memory)) l.text l.end
+
+abbrev pub decreases-loop-i : goal.decreases-loop-i
+decreases-loop-i l = length l.memory - l.i

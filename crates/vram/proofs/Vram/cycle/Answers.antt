@@ -1,0 +1,67 @@
+-- `vram::Vram::cycle` meets its contract: what each kind ensures is what the whole call owes, by `did`. Assumes nothing.
+use Rattle.std.proofs.Common.{refl, rules}
+use Rattle.numbers.specs.Refuse.{first_of}
+use Rattle.vram.specs.Board.{effect}
+use Rattle.refusals.specs.Refusal.{full_refusal, split_refusal}
+use Rattle.vram.specs.Refusal.{given, refusal}
+use Rattle.vram.proofs.Arms.{untouched, did, did_alone}
+use Rattle.vram.proofs.Vram.cycle.Goals as goal
+
+pub returns-in-WordWrite : goal.returns-in-WordWrite
+unfolding effect refusal
+returns-in-WordWrite c =
+    let w = c in
+    let k = w in
+    rw k.cycle-1.given.1
+    (did _ _ _ _ _ w.word_write-n.ensures.0 (untouched w.word_write-n.result _) w.word_write-n.ensures.1 (untouched w.word_write-n.result _))
+
+pub returns-in-BlockWrite : goal.returns-in-BlockWrite
+unfolding effect refusal
+returns-in-BlockWrite c =
+    let w = c in
+    let k = w in
+    rw k.cycle-in-BlockWrite-1.given.1
+    (did _ _ _ _ _ w.block_write-n.ensures.0 (untouched w.block_write-n.result _) w.block_write-n.ensures.1 (untouched w.block_write-n.result _))
+
+pub returns-in-LoadColour : goal.returns-in-LoadColour
+unfolding effect refusal
+returns-in-LoadColour c =
+    let k = c in
+    rw (k.cycle-in-LoadColour-1.given.1, c.load_colour.ensures)
+    (did_alone _ _ _ _ _ refl refl refl refl)
+
+pub returns-in-LoadMask : goal.returns-in-LoadMask
+unfolding effect refusal
+returns-in-LoadMask c =
+    let k = c in
+    rw (k.cycle-in-LoadMask-1.given.1, c.load_mask.ensures)
+    (did_alone _ _ _ _ _ refl refl refl refl)
+
+pub returns-in-ResetRefresh : goal.returns-in-ResetRefresh
+unfolding effect refusal
+returns-in-ResetRefresh c =
+    rw (c.enum_told-1.given.1, c.reset_refresh.ensures)
+    (did_alone _ _ _ _ _ refl refl refl refl)
+
+pub returns-in-FullTransfer : goal.returns-in-FullTransfer
+unfolding effect refusal
+returns-in-FullTransfer c =
+    let t = c in
+    let k = t in
+    rw (k.cycle-in-FullTransfer-1.given.1, t.full_transfer.ensures.answer)
+    (did _ _ _ _ _ refl refl (untouched (first_of (given _ _ _) (full_refusal _ _ _)) _) t.full_transfer.ensures.serial-1)
+
+pub returns-in-SplitTransfer : goal.returns-in-SplitTransfer
+unfolding effect refusal
+returns-in-SplitTransfer c =
+    let t = c in
+    let k = t in
+    rw (k.cycle-in-SplitTransfer-1.given.1, t.split_transfer.ensures.answer)
+    (did _ _ _ _ _ refl refl (untouched (first_of (given _ _ _) (split_refusal _ _ _ _ _)) _) t.split_transfer.ensures.serial-1)
+
+pub returns-in-StopPoints : goal.returns-in-StopPoints
+unfolding effect refusal
+returns-in-StopPoints c =
+    let k = c in
+    rw (k.cycle-in-StopPoints-1.given.1, c.stop_points.ensures)
+    (did_alone _ _ _ _ _ refl refl refl refl)

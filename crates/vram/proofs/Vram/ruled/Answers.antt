@@ -1,0 +1,12 @@
+-- `vram::Vram::ruled` meets its contract. Assumes nothing.
+use Rattle.vram.specs.State.{ruled}
+use Rattle.std.proofs.Common.{rules}
+use Rattle.vram.proofs.Vram.ruled.Goals as goal
+
+pub returns-in-None : goal.returns-in-None
+unfolding ruled
+returns-in-None c = rw c.enum_told-1.given.1
+
+pub returns-in-Tap : goal.returns-in-Tap
+unfolding ruled
+returns-in-Tap c = rw c.waiting-1.given.1

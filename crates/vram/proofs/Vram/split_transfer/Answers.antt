@@ -1,0 +1,49 @@
+-- `vram::Vram::split_transfer` meets its contract. Assumes nothing.
+use Rattle.std.proofs.Common.{ℕ, ◌+◌, length, sym, ap, ◌∙◌, ap₂, arith, rules}
+use Rattle.refusals.specs.RefusalLaws.{split_zero, transfer_within}
+use Rattle.vram.specs.declared.Waiting.TheVariants.{Tap}
+use Rattle.vram.specs.State.{with_serial}
+use Rattle.vram.specs.Memory.{copied}
+use Rattle.vram.specs.RefusalLaws.{given_zero}
+use Rattle.vram.proofs.Arms.{given_refuses, own_decides, transfer_refused, transfer_done}
+use Rattle.vram.proofs.Vram.split_transfer.Goals as goal
+
+pub returns-then-n-ne-DONE : goal.returns-then-n-ne-DONE
+returns-then-n-ne-DONE c = transfer_refused _ _ _ _ _ _ (given_refuses _ _ _ c.given-n.ensures c.if-n-ne-DONE.true) c.if-n-ne-DONE.true
+
+pub returns-then-n-ne-DONE-2 : goal.returns-then-n-ne-DONE-2
+returns-then-n-ne-DONE-2 c =
+    let d = c in
+    transfer_refused _ _ _ _ _ _ (own_decides _ _ _ d.given-n.ensures d.if-n-ne-DONE.false c.split_refusal-n.ensures) c.if-n-ne-DONE-2.true
+
+pub copy-requires : goal.copy-requires
+copy-requires c =
+    let p = c in
+    let h = p in
+    let e = h in
+    let d = e in
+    let a = d.args in
+    let z = split_zero _ a.self.loaded a.row a.half a.tap (sym e.split_refusal-n.ensures ∙ e.if-n-ne-DONE-2.false) in
+    let w = transfer_within (length a.memory.now) a.row a.half h.other_half-first.result 128 z.row_fitted z.half_within (omega (arith, h.other_half-first.ensures.1)) in
+    let g = given_zero _ _ _ (sym d.given-n.ensures ∙ d.if-n-ne-DONE.false) in
+    (omega (arith, p.place.ensures, w), omega (arith, g.register, h.other_half-first.ensures.1))
+
+pub returns : goal.returns
+returns c =
+    let k = c in
+    let p = k in
+    let h = p in
+    let e = h in
+    let d = e in
+    let a = d.args in
+    transfer_done _ _ _ _ _ _ (own_decides _ _ _ d.given-n.ensures d.if-n-ne-DONE.false e.split_refusal-n.ensures) e.if-n-ne-DONE-2.false
+    (c.with_serial-state.ensures ∙ ap (λ (x : ℕ). with_serial a.self a.self.loaded a.self.pointer (Tap (x + a.tap))) h.other_half-first.ensures.0)
+    (k.copy.ensures ∙ ap₂ (λ (i x : ℕ). copied a.memory.now (i + x) a.serial-1.now x 128) p.place.ensures h.other_half-first.ensures.0)
+
+-- LEFT: add_t22 : tie.Need-overflow-add-t22
+-- add_t22 c =
+--     let h = c.before.before.before.before.before in
+--     let e = h.before in
+--     let a = e.before.before.before.before.before.before.args in
+--     let z = split_zero _ a.self.loaded a.row a.half a.tap (sym e.before.split_refusal.ensures ∙ e.if2.false) in
+--     omega (arith, z.tap_within, h.other_half.ensures.1)

@@ -1,0 +1,16 @@
+-- `vram::Vram::through` meets its contract. Assumes nothing.
+use Rattle.std.proofs.Common.{ℕ, ◌<◌, sym, ap, subst, le_of_lt, mod-lt, rules}
+use Rattle.vram.specs.Partition.{partition}
+use Rattle.vram.specs.Serial.{through_in, length_of}
+use Rattle.vram.proofs.Vram.through.Goals as goal
+
+pub returns : goal.returns
+unfolding length_of
+returns c = ap (λ (n : ℕ). through_in n c.args.self.pointer) c.length-length.ensures
+
+-- LEFT: rem_result : tie.Need-nonzero-rem-result
+-- unfolding length_of
+-- rem_result c = subst (λ (n : ℕ). 0 < n) (sym c.length.ensures) (partition c.before.args.self).some
+
+-- LEFT: sub_result : tie.Need-overflow-sub-result
+-- sub_result c = le_of_lt (mod-lt c.before.args.self.pointer (rem_result c))
