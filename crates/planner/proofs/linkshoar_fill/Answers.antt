@@ -45,7 +45,7 @@ returns-in-Refused c =
     let b = m in
     let a = b.args in
     let f = fill a.rows a.first-row a.end_row a.first-column a.end-column a.mask a.colour a.persistent in
-    let s = says_any a.rows a.first-row a.end_row a.first-column a.end-column a.mask a.colour a.persistent _ _ m.shape_of-shape.ensures c.shape-1.given.1 in
+    let s = says_any a.rows a.first-row a.end_row a.first-column a.end-column a.mask a.colour a.persistent _ _ m.shape_of-shape.ensures c.in-Refused.is in
     with_demand f a.list-1.now b.ranges.mask.fits b.ranges.colour.fits
     (fill_refuses f a.list-1.now _ s.0 s.1)
 
@@ -55,7 +55,7 @@ returns-in-Nothing c =
     let b = m in
     let a = b.args in
     let f = fill a.rows a.first-row a.end_row a.first-column a.end-column a.mask a.colour a.persistent in
-    let s = says_any a.rows a.first-row a.end_row a.first-column a.end-column a.mask a.colour a.persistent _ _ m.shape_of-shape.ensures c.enum_told-1.given.1 in
+    let s = says_any a.rows a.first-row a.end_row a.first-column a.end-column a.mask a.colour a.persistent _ _ m.shape_of-shape.ensures c.in-Nothing.is in
     with_demand f a.list-1.now b.ranges.mask.fits b.ranges.colour.fits
     (fill_nothing f a.list-1.now s.0 s.1)
 

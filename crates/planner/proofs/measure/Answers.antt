@@ -12,7 +12,7 @@ returns-in-Refused c =
     let m = c in
     let a = m.args in
     let f = fill a.rows a.first-row a.end_row a.first-column a.end-column a.mask 0 a.persistent in
-    answer_refused f _ (says_any a.rows a.first-row a.end_row a.first-column a.end-column a.mask 0 a.persistent _ _ m.shape_of-shape.ensures c.shape-1.given.1)
+    answer_refused f _ (says_any a.rows a.first-row a.end_row a.first-column a.end-column a.mask 0 a.persistent _ _ m.shape_of-shape.ensures c.in-Refused.is)
 
 pub returns-in-Nothing : goal.returns-in-Nothing
 unfolding shape_answer
@@ -20,7 +20,7 @@ returns-in-Nothing c =
     let m = c in
     let a = m.args in
     let f = fill a.rows a.first-row a.end_row a.first-column a.end-column a.mask 0 a.persistent in
-    answer_nothing f 0 (says_any a.rows a.first-row a.end_row a.first-column a.end-column a.mask 0 a.persistent _ _ m.shape_of-shape.ensures c.enum_told-1.given.1)
+    answer_nothing f 0 (says_any a.rows a.first-row a.end_row a.first-column a.end-column a.mask 0 a.persistent _ _ m.shape_of-shape.ensures c.in-Nothing.is)
 
 pub returns-in-Words : goal.returns-in-Words
 unfolding shape_answer
@@ -28,7 +28,7 @@ returns-in-Words c =
     let m = c in
     let a = m.args in
     let f = fill a.rows a.first-row a.end_row a.first-column a.end-column a.mask 0 a.persistent in
-    answer_words f _ (says_any a.rows a.first-row a.end_row a.first-column a.end-column a.mask 0 a.persistent _ _ m.shape_of-shape.ensures c.shape-in-Words-1.given.1)
+    answer_words f _ (says_any a.rows a.first-row a.end_row a.first-column a.end-column a.mask 0 a.persistent _ _ m.shape_of-shape.ensures c.in-Words.is)
 
 pub returns-in-Blocks : goal.returns-in-Blocks
 unfolding shape_answer
@@ -36,7 +36,7 @@ returns-in-Blocks c =
     let m = c in
     let a = m.args in
     let f = fill a.rows a.first-row a.end_row a.first-column a.end-column a.mask 0 a.persistent in
-    answer_blocks f _ (says_any a.rows a.first-row a.end_row a.first-column a.end-column a.mask 0 a.persistent _ _ m.shape_of-shape.ensures c.shape-in-Blocks-1.given.1)
+    answer_blocks f _ (says_any a.rows a.first-row a.end_row a.first-column a.end-column a.mask 0 a.persistent _ _ m.shape_of-shape.ensures c.in-Blocks.is)
 
 -- LEFT: mul_t13 : tie.Need-overflow-mul-t13
 -- mul_t13 c =

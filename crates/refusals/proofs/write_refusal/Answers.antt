@@ -22,14 +22,14 @@ pub returns-then-not-strobed : goal.returns-then-not-strobed
 unfolding write_refusal
 returns-then-not-strobed c =
     let a = c.args in
-    rw (lt-ltb a.row a.rows c.if-rows-row.false, le-leb a.column 511 c.if-column-gt511.false, not-true (strobes_ok a.strobes) c.if-not-strobed.true)
+    rw (lt-ltb a.row a.rows c.if-rows-row.false, le-leb a.column 511 c.if-column-gt511.false, c.if-not-strobed.true)
 
 pub returns-then-masking-eq1 : goal.returns-then-masking-eq1
 unfolding write_refusal
 returns-then-masking-eq1 c =
     let b = c in
     let a = b.args in
-    rw (lt-ltb a.row a.rows b.if-rows-row.false, le-leb a.column 511 b.if-column-gt511.false, not-false (strobes_ok a.strobes) b.if-not-strobed.false, c.if-masking-eq1.true)
+    rw (lt-ltb a.row a.rows b.if-rows-row.false, le-leb a.column 511 b.if-column-gt511.false, b.if-not-strobed.false, c.if-masking-eq1.true)
 
 pub returns-then-masking-mask : goal.returns-then-masking-mask
 unfolding write_refusal
@@ -37,7 +37,7 @@ returns-then-masking-mask c =
     let b = c in
     let a = b.args in
     let plain : (eqb a.masking 0 && eqb a.mask 0) ≡ true = c.if-masking-mask.true in
-    rw (lt-ltb a.row a.rows b.if-rows-row.false, le-leb a.column 511 b.if-column-gt511.false, not-false (strobes_ok a.strobes) b.if-not-strobed.false, plain)
+    rw (lt-ltb a.row a.rows b.if-rows-row.false, le-leb a.column 511 b.if-column-gt511.false, b.if-not-strobed.false, plain)
 
 pub returns-else-masking-mask : goal.returns-else-masking-mask
 unfolding write_refusal
@@ -48,7 +48,7 @@ returns-else-masking-mask c =
     rw (
       lt-ltb a.row a.rows b.if-rows-row.false,
       le-leb a.column 511 b.if-column-gt511.false,
-      not-false (strobes_ok a.strobes) b.if-not-strobed.false,
+      b.if-not-strobed.false,
       plain,
       ne_eqb a.masking 1 c.if-masking-eq1.false,
     )

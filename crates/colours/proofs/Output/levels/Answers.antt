@@ -3,10 +3,10 @@ use borrow.Author.Rules.{rules}
 use Rattle.colours.proofs.Output.levels.Goals as goal
 
 pub returns-in-Sync : goal.returns-in-Sync
-returns-in-Sync c = rw c.enum_told-1.given.1
+returns-in-Sync c = rw c.in-Sync.is
 
 pub returns-in-Blank : goal.returns-in-Blank
-returns-in-Blank c = rw c.enum_told-in-Blank-1.given.1
+returns-in-Blank c = rw c.in-Blank.is
 
 pub returns-in-Overlay : goal.returns-in-Overlay
 returns-in-Overlay c =
@@ -18,4 +18,4 @@ returns-in-Overlay c =
     )
 
 pub returns-in-Colour : goal.returns-in-Colour
-returns-in-Colour c = rw c.self-in-Colour-1.given.1
+returns-in-Colour c = rw c.in-Colour.is

@@ -3,4 +3,4 @@ use borrow.Author.Rules.{rules}
 use Rattle.colours.proofs.Output.steps_ok.Goals as goal
 
 pub returns-in-Colour : goal.returns-in-Colour
-returns-in-Colour c = rw c.self-in-Colour-1.given.1
+returns-in-Colour c = rw c.in-Colour.is

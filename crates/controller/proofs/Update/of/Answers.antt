@@ -9,4 +9,4 @@ pub returns-in-1 : goal.returns-in-1
 returns-in-1 c = rw c.in-1.is
 
 pub returns-in_default : goal.returns-in_default
-returns-in_default c = rw (ne_eqb _ _ c.in_default.is.0.1, ne_eqb _ _ c.in_default.is.1)
+returns-in_default c = rw (ne_eqb _ _ c.in_default.in_default-own.0.1, ne_eqb _ _ c.in_default.in_default-own.1)

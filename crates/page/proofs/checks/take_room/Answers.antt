@@ -13,4 +13,4 @@ pub returns-else-n-left : goal.returns-else-n-left
 returns-else-n-left c = sym (ap (λ (r : Room). takes r c.args.n) c.room-1.given.1 ∙ takes_over _ _ c.if-n-left.false)
 
 pub returns-in-Passed : goal.returns-in-Passed
-returns-in-Passed c = sym (ap (λ (r : Room). takes r c.args.n) c.enum_told-1.given.1 ∙ takes_passed _)
+returns-in-Passed c = sym (ap (λ (r : Room). takes r c.args.n) c.in-Passed.is ∙ takes_passed _)

@@ -9,24 +9,24 @@ pub returns-then-not-ruled : goal.returns-then-not-ruled
 returns-then-not-ruled c =
     let r = c in
     let a = r.args in
-    sym (access_1 a.last a.self a.bytes a.select (sym r.ruled.ensures ∙ not-true _ c.if-not-ruled.true))
+    sym (access_1 a.last a.self a.bytes a.select (sym r.ruled.ensures ∙ c.if-not-ruled.true))
 
 pub returns-then-bytes-ne768 : goal.returns-then-bytes-ne768
 returns-then-bytes-ne768 c =
     let r = c in
     let a = r.args in
-    sym (access_3 a.last a.self a.bytes a.select (sym r.ruled.ensures ∙ not-false _ c.if-not-ruled.false) c.if-bytes-ne768.true)
+    sym (access_3 a.last a.self a.bytes a.select (sym r.ruled.ensures ∙ c.if-not-ruled.false) c.if-bytes-ne768.true)
 
 pub returns-then-select-last : goal.returns-then-select-last
 returns-then-select-last c =
     let r = c in
     let a = r.args in
     sym (access_11 a.last a.self a.bytes a.select
-    (sym r.ruled.ensures ∙ not-false _ c.if-not-ruled.false) c.if-bytes-ne768.false c.if-select-last.true)
+    (sym r.ruled.ensures ∙ c.if-not-ruled.false) c.if-bytes-ne768.false c.if-select-last.true)
 
 pub returns : goal.returns
 returns c =
     let r = c in
     let a = r.args in
     sym (access_0 a.last a.self a.bytes a.select
-    (sym r.ruled.ensures ∙ not-false _ c.if-not-ruled.false) c.if-bytes-ne768.false c.if-select-last.false)
+    (sym r.ruled.ensures ∙ c.if-not-ruled.false) c.if-bytes-ne768.false c.if-select-last.false)

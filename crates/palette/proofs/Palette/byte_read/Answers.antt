@@ -13,4 +13,4 @@ returns-in-1 c = rw (c.in-1.is, c.register.ensures)
 
 pub returns-in_default : goal.returns-in_default
 unfolding byte_read
-returns-in_default c = rw (ne_eqb _ _ c.in_default.is.0.1, ne_eqb _ _ c.in_default.is.1)
+returns-in_default c = rw (ne_eqb _ _ c.in_default.in_default-own.0.1, ne_eqb _ _ c.in_default.in_default-own.1)

@@ -13,7 +13,7 @@ pub returns-in-Six : goal.returns-in-Six
 returns-in-Six c =
     let t = c in
     let a = t.args in
-    let part : (six : ℕ) → part_at a.width six ≡ six = λ six. ap (λ (w : Width). part_at w six) c.enum_told-1.given.1 ∙ at_six six in
+    let part : (six : ℕ) → part_at a.width six ≡ six = λ six. ap (λ (w : Width). part_at w six) c.in-Six.is ∙ at_six six in
     omega (arith, t.two_kept-six.ensures, six_bits a.low, six_bits a.high, part (a.low % 64), part (a.high % 64))
 
 pub returns-in-Eight : goal.returns-in-Eight

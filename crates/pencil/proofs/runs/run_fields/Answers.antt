@@ -40,7 +40,7 @@ pub returns-in-Waits : goal.returns-in-Waits
 returns-in-Waits c =
     let o = c in
     let l = o.loop-cycle in
-    over_waits l.rest-1.now o.head_of-head.result o.head_of-head.ensures c.enum_told-1.given.1 _ ∙ l.invariant.2
+    over_waits l.rest-1.now o.head_of-head.result o.head_of-head.ensures c.in-Waits.is _ ∙ l.invariant.2
 
 pub shape_of-memory-in-Wrong : goal.shape_of-memory-in-Wrong
 shape_of-memory-in-Wrong c = c.loop-cycle.invariant.0
@@ -52,7 +52,7 @@ pub returns-in-Wrong : goal.returns-in-Wrong
 returns-in-Wrong c =
     let o = c in
     let l = o.loop-cycle in
-    over_wrong l.rest-1.now o.head_of-head.result o.head_of-head.ensures c.enum_told-in-Wrong-1.given.1 _ ∙ l.invariant.2
+    over_wrong l.rest-1.now o.head_of-head.result o.head_of-head.ensures c.in-Wrong.is _ ∙ l.invariant.2
 
 -- LEFT: sub_rest : tie.Need-overflow-sub-rest invariant-loop decreases-loop
 -- sub_rest c =

@@ -49,7 +49,7 @@ returns-in-FullTransfer c =
     let t = c in
     let k = t in
     rw (k.cycle-in-FullTransfer-1.given.1, t.full_transfer.ensures.answer)
-    (did _ _ _ _ _ refl refl (untouched (first_of (given _ _ _) (full_refusal _ _ _)) _) t.full_transfer.ensures.serial-1)
+    (did _ _ _ _ _ refl refl (untouched (first_of (given _ _ _) (full_refusal _ _ _)) _) t.full_transfer.ensures.serial)
 
 pub returns-in-SplitTransfer : goal.returns-in-SplitTransfer
 unfolding effect refusal
@@ -57,7 +57,7 @@ returns-in-SplitTransfer c =
     let t = c in
     let k = t in
     rw (k.cycle-in-SplitTransfer-1.given.1, t.split_transfer.ensures.answer)
-    (did _ _ _ _ _ refl refl (untouched (first_of (given _ _ _) (split_refusal _ _ _ _ _)) _) t.split_transfer.ensures.serial-1)
+    (did _ _ _ _ _ refl refl (untouched (first_of (given _ _ _) (split_refusal _ _ _ _ _)) _) t.split_transfer.ensures.serial)
 
 pub returns-in-StopPoints : goal.returns-in-StopPoints
 unfolding effect refusal

@@ -5,7 +5,7 @@ use Rattle.vram.proofs.Vram.ruled.Goals as goal
 
 pub returns-in-None : goal.returns-in-None
 unfolding ruled
-returns-in-None c = rw c.enum_told-1.given.1
+returns-in-None c = rw c.in-None.is
 
 pub returns-in-Tap : goal.returns-in-Tap
 unfolding ruled
