@@ -14,7 +14,7 @@ returns-then-lawful c =
     let l = t in
     let a = l.args in
     rw c.answer.ensures
-    (taking_done (λ s. handed_outcome (write_call s a.table-1.now a.address a.value)) (outcome (held_excluded a.state) a.table-1.now)
+    (taking_done (λ s. handed_outcome (write_call s a.table.now a.address a.value)) (outcome (held_excluded a.state) a.table.now)
     a.state (sym l.lawful.ensures ∙ t.if-lawful.true) t.take.result t.take.ensures _
     (ap handed_outcome w.write.ensures))
 
@@ -24,5 +24,5 @@ returns c =
     let l = c in
     let a = l.args in
     rw c.excluded.ensures
-    (taking_excluded (λ s. handed_outcome (write_call s a.table-1.now a.address a.value)) (outcome (held_excluded a.state) a.table-1.now)
+    (taking_excluded (λ s. handed_outcome (write_call s a.table.now a.address a.value)) (outcome (held_excluded a.state) a.table.now)
     a.state (sym l.lawful.ensures ∙ c.if-lawful.false))

@@ -12,9 +12,9 @@ returns-then-lawful c =
     let l = t in
     let a = l.args in
     list_done effect a.state (sym l.lawful.ensures ∙ t.if-lawful.true) t.take.result t.take.ensures
-    a.memory-1.now a.serial-1.now a.list.now r.run-ran.result r.run-ran.new.1.0 r.run-ran.new.1.1.0 r.run-ran.ensures c.hand_ran.result c.hand_ran.ensures
+    a.memory.now a.serial.now a.list.now r.run-ran.result r.run-ran.new.1.0 r.run-ran.new.1.1.0 r.run-ran.ensures c.hand_ran.result c.hand_ran.ensures
 
 pub returns : goal.returns
 returns c =
     let a = c.args in
-    list_excluded effect a.state (sym c.lawful.ensures ∙ c.if-lawful.false) a.memory-1.now a.serial-1.now a.list.now
+    list_excluded effect a.state (sym c.lawful.ensures ∙ c.if-lawful.false) a.memory.now a.serial.now a.list.now

@@ -19,6 +19,20 @@ loop-rest-init c =
 pub field_number-n-requires : goal.field_number-n-requires
 field_number-n-requires c = omega arith
 
+pub slice_bounds-rest-count : goal.slice_bounds-rest-count
+slice_bounds-rest-count c =
+    let b = c in
+    let e = b in
+    let f = e in
+    turn_fits _ _ f.loop-rest.left f.loop-rest.rest.now f.field_number-n.result f.field_number-n.ensures e.if-n-ne-DONE.false b.body_length-size.result b.body_length-size.ensures.0
+
+pub slice_bounds-rest-start : goal.slice_bounds-rest-start
+slice_bounds-rest-start c =
+    let b = c in
+    let e = b in
+    let f = e in
+    omega (arith, turn_fits _ _ f.loop-rest.left f.loop-rest.rest.now f.field_number-n.result f.field_number-n.ensures e.if-n-ne-DONE.false b.body_length-size.result b.body_length-size.ensures.0)
+
 pub loop-rest-smaller : goal.loop-rest-smaller
 loop-rest-smaller c =
     let b = c in
@@ -36,11 +50,11 @@ loop-rest-preserved c =
     let l = f.loop-rest in
     let made = j.if-tag-gt3.made in
     let left = j.if-tag-gt3.left in (
-      rest_within l.rest-1.now b.body_length-size.result b.body_length-size.ensures.0 _ l.invariant.0,
+      rest_within l.rest.now b.body_length-size.result b.body_length-size.ensures.0 _ l.invariant.0,
       ⊎_elim
-          (λ x. turn_good _ _ l.left l.rest-1.now f.field_number-n.result f.field_number-n.ensures e.if-n-ne-DONE.false b.body_length-size.result b.body_length-size.ensures.0
+          (λ x. turn_good _ _ l.left l.rest.now f.field_number-n.result f.field_number-n.ensures e.if-n-ne-DONE.false b.body_length-size.result b.body_length-size.ensures.0
           _ l.invariant.0 made left x.2 (x.3 ∙ x.1.ensures))
-          (λ x. turn_good _ _ l.left l.rest-1.now f.field_number-n.result f.field_number-n.ensures e.if-n-ne-DONE.false b.body_length-size.result b.body_length-size.ensures.0
+          (λ x. turn_good _ _ l.left l.rest.now f.field_number-n.result f.field_number-n.ensures e.if-n-ne-DONE.false b.body_length-size.result b.body_length-size.ensures.0
           _ l.invariant.0 made left (x.1 ∙ fill_loads _ _ x.0.left) (x.2 ∙ fill_opens _ _ _ x.0.left))
           j.if-tag-gt3.branch
           ∙ l.invariant.1,
@@ -55,21 +69,7 @@ returns c =
     let w = b.left_behind.result in
     let r = c.first_bad.result in
     ⊎_elim
-    (λ x. end_check _ _ l.left l.rest-1.now v w r c.first_bad.ensures _ x.0.taken x.1 b.left_behind.ensures)
-    (λ y. turn_bad _ _ l.left l.rest-1.now v w r c.first_bad.ensures _ y.0.left y.1.result y.1.ensures y.2.taken y.3)
+    (λ x. end_check _ _ l.left l.rest.now v w r c.first_bad.ensures _ x.0.taken x.1 b.left_behind.ensures)
+    (λ y. turn_bad _ _ l.left l.rest.now v w r c.first_bad.ensures _ y.0.left y.1.result y.1.ensures y.2.taken y.3)
     j.if-rest-eq0.branch
     ∙ l.invariant.1
-
--- LEFT: sub_rest : tie.Need-overflow-sub-rest invariant-loop decreases-loop
--- sub_rest c =
---     let b = c.before in
---     let e = b.before.before in
---     let f = e.before in
---     turn_fits _ _ f.before.before.loop.left f.before.before.loop.rest.now f.field-number.result f.field-number.ensures e.if2.false b.body_length.result b.body_length.ensures.0
-
--- LEFT: part_rest_start : tie.Need-slice-bounds-rest-start invariant-loop decreases-loop
--- part_rest_start c =
---     let b = c.before in
---     let e = b.before.before in
---     let f = e.before in
---     omega (arith, turn_fits _ _ f.before.before.loop.left f.before.before.loop.rest.now f.field-number.result f.field-number.ensures e.if2.false b.body_length.result b.body_length.ensures.0)

@@ -24,6 +24,11 @@ bounds-bytes-0 c =
     let w = c in
     omega (arith, whole_length _ (sym w.whole.ensures ∙ c.if-whole.true))
 
+pub slice_bounds-cycle_of-end : goal.slice_bounds-cycle_of-end
+slice_bounds-cycle_of-end c =
+    let t = c in
+    omega (arith, whole_length _ (sym t.whole.ensures ∙ t.if-whole.true), c.body_length-size.ensures.0)
+
 pub returns-then-whole : goal.returns-then-whole
 returns-then-whole c =
     let b = c in
@@ -37,8 +42,3 @@ pub returns : goal.returns
 returns c =
     let w = c in
     sym (head_wrong _ (sym w.waits.ensures ∙ w.if-waits.false) (sym w.whole.ensures ∙ c.if-whole.false))
-
--- LEFT: part_cycle_of_end : tie.Need-slice-bounds-cycle-of-end
--- part_cycle_of_end c =
---     let t = c.before.before in
---     omega (arith, whole_length _ (sym t.before.whole.ensures ∙ t.if2.true), c.body_length.ensures.0)

@@ -13,14 +13,14 @@ pub returns-then-n-ne-DONE : goal.returns-then-n-ne-DONE
 returns-then-n-ne-DONE c =
     let g = c in
     let a = g.args in
-    given_out effect a.list.now (board a.state a.memory-1.now a.serial-1.now) g.given-n.result g.given-n.ensures c.if-n-ne-DONE.true
+    given_out effect a.list.now (board a.state a.memory.now a.serial.now) g.given-n.result g.given-n.ensures c.if-n-ne-DONE.true
 
 pub returns-then-bad-ne-DONE : goal.returns-then-bad-ne-DONE
 returns-then-bad-ne-DONE c =
     let k = c in
     let g = k in
     let a = g.args in
-    let b = board a.state a.memory-1.now a.serial-1.now in
+    let b = board a.state a.memory.now a.serial.now in
     checked_out effect a.list.now b g.given-n.result g.given-n.ensures k.if-n-ne-DONE.false k.check-bad.result k.check-bad.ensures (gives k.check-bad.result b)
     (refused_out effect a.list.now b k.check-bad.result c.if-bad-ne-DONE.true)
 
@@ -37,6 +37,6 @@ returns c =
     let k = e in
     let g = k in
     let a = g.args in
-    let b = board a.state a.memory-1.now a.serial-1.now in
+    let b = board a.state a.memory.now a.serial.now in
     checked_out effect a.list.now b g.given-n.result g.given-n.ensures k.if-n-ne-DONE.false k.check-bad.result k.check-bad.ensures (gives k.check-bad.result _)
     (done_out effect a.list.now b k.check-bad.result e.if-bad-ne-DONE.false _ p.run_fields-after.ensures)

@@ -7,7 +7,7 @@ pub returns-then-n-ne-DONE : goal.returns-then-n-ne-DONE
 returns-then-n-ne-DONE c =
     let l = c in
     let a = l.args in
-    length_out a.list.now a.rows a.loaded a.marks-1.now l.length_number-n.result l.length_number-n.ensures c.if-n-ne-DONE.true
+    length_out a.list.now a.rows a.loaded a.marks.now l.length_number-n.result l.length_number-n.ensures c.if-n-ne-DONE.true
 
 pub returns-then-bad-ne-DONE : goal.returns-then-bad-ne-DONE
 returns-then-bad-ne-DONE c =
@@ -15,7 +15,7 @@ returns-then-bad-ne-DONE c =
     let e = k in
     let l = e in
     let a = l.args in
-    turned_down a.list.now a.rows a.loaded a.marks-1.now l.length_number-n.result l.length_number-n.ensures e.if-n-ne-DONE.false k.check-bad.result
+    turned_down a.list.now a.rows a.loaded a.marks.now l.length_number-n.result l.length_number-n.ensures e.if-n-ne-DONE.false k.check-bad.result
     k.check-bad.ensures c.if-bad-ne-DONE.true
 
 pub mark_writes-requires : goal.mark_writes-requires
@@ -25,7 +25,7 @@ mark_writes-requires c =
     let e = k in
     let l = e in
     let a = l.args in
-    checked_list a.list.now a.rows a.loaded a.marks-1.now l.length_number-n.result l.length_number-n.ensures e.if-n-ne-DONE.false k.check-bad.result
+    checked_list a.list.now a.rows a.loaded a.marks.now l.length_number-n.result l.length_number-n.ensures e.if-n-ne-DONE.false k.check-bad.result
     k.check-bad.ensures t.if-bad-ne-DONE.false
 
 pub returns : goal.returns
@@ -36,5 +36,5 @@ returns c =
     let e = k in
     let l = e in
     let a = l.args in
-    checked_out a.list.now a.rows a.loaded a.marks-1.now l.length_number-n.result l.length_number-n.ensures e.if-n-ne-DONE.false k.check-bad.result
+    checked_out a.list.now a.rows a.loaded a.marks.now l.length_number-n.result l.length_number-n.ensures e.if-n-ne-DONE.false k.check-bad.result
     k.check-bad.ensures t.if-bad-ne-DONE.false _ m.mark_writes.ensures

@@ -11,7 +11,7 @@ returns-then-n-ne-DONE c =
     let l = r in
     let g = l in
     let a = g.args in
-    first_out a.list.now (board a.state a.memory-1.now a.serial-1.now) a.marks-1.now g.given-given.result l.length_number-length.result r.refuse-n.result
+    first_out a.list.now (board a.state a.memory.now a.serial.now) a.marks.now g.given-given.result l.length_number-length.result r.refuse-n.result
     g.given-given.ensures l.length_number-length.ensures r.refuse-n.ensures c.if-n-ne-DONE.true
 
 pub returns-then-number-ne-DONE : goal.returns-then-number-ne-DONE
@@ -22,7 +22,7 @@ returns-then-number-ne-DONE c =
     let l = r in
     let g = l in
     let a = g.args in
-    refused_out a.list.now (board a.state a.memory-1.now a.serial-1.now) a.marks-1.now g.given-given.result l.length_number-length.result r.refuse-n.result
+    refused_out a.list.now (board a.state a.memory.now a.serial.now) a.marks.now g.given-given.result l.length_number-length.result r.refuse-n.result
     g.given-given.ensures l.length_number-length.ensures r.refuse-n.ensures e.if-n-ne-DONE.false (outcome p.run-ran.result p.run-ran.new.1.0 p.run-ran.new.1.1.0) p.run-ran.ensures c.if-number-ne-DONE.true
 
 pub mark_writes-requires : goal.mark_writes-requires
@@ -34,7 +34,7 @@ mark_writes-requires c =
     let l = r in
     let g = l in
     let a = g.args in
-    accepted_list a.list.now (board a.state a.memory-1.now a.serial-1.now) a.marks-1.now g.given-given.result l.length_number-length.result r.refuse-n.result
+    accepted_list a.list.now (board a.state a.memory.now a.serial.now) a.marks.now g.given-given.result l.length_number-length.result r.refuse-n.result
     g.given-given.ensures l.length_number-length.ensures r.refuse-n.ensures e.if-n-ne-DONE.false (outcome p.run-ran.result p.run-ran.new.1.0 p.run-ran.new.1.1.0) p.run-ran.ensures t.if-number-ne-DONE.false
 
 pub returns : goal.returns
@@ -47,6 +47,6 @@ returns c =
     let l = r in
     let g = l in
     let a = g.args in
-    done_out a.list.now (board a.state a.memory-1.now a.serial-1.now) a.marks-1.now g.given-given.result l.length_number-length.result r.refuse-n.result
+    done_out a.list.now (board a.state a.memory.now a.serial.now) a.marks.now g.given-given.result l.length_number-length.result r.refuse-n.result
     g.given-given.ensures l.length_number-length.ensures r.refuse-n.ensures e.if-n-ne-DONE.false (outcome p.run-ran.result p.run-ran.new.1.0 p.run-ran.new.1.1.0) p.run-ran.ensures t.if-number-ne-DONE.false
     _ m.mark_writes.ensures

@@ -10,14 +10,14 @@ pub returns-then-n-ne-DONE : goal.returns-then-n-ne-DONE
 returns-then-n-ne-DONE c =
     let r = c in
     let a = r.args in
-    ap (λ (x : Paged). outcome x a.list-1.now) c.refused.ensures
-    ∙ rows_out a.rows a.persistent a.rectangles.now a.list-1.now r.refuse-n.result r.refuse-n.ensures c.if-n-ne-DONE.true
+    ap (λ (x : Paged). outcome x a.list.now) c.refused.ensures
+    ∙ rows_out a.rows a.persistent a.rectangles.now a.list.now r.refuse-n.result r.refuse-n.ensures c.if-n-ne-DONE.true
 
 pub check-bad-requires : goal.check-bad-requires
 check-bad-requires c =
     let r = c in
     let a = r.args in
-    fitted a.rows a.persistent a.rectangles.now a.list-1.now r.refuse-n.result r.refuse-n.ensures c.if-n-ne-DONE.false
+    fitted a.rows a.persistent a.rectangles.now a.list.now r.refuse-n.result r.refuse-n.ensures c.if-n-ne-DONE.false
 
 pub returns-then-bad-ne-DONE : goal.returns-then-bad-ne-DONE
 returns-then-bad-ne-DONE c =
@@ -25,8 +25,8 @@ returns-then-bad-ne-DONE c =
     let k = t in
     let r = k in
     let a = r.args in
-    ap (λ (x : Paged). outcome x a.list-1.now) c.refused-then-bad-ne-DONE.ensures
-    ∙ refused_out a.rows a.persistent a.rectangles.now a.list-1.now r.refuse-n.result r.refuse-n.ensures k.if-n-ne-DONE.false
+    ap (λ (x : Paged). outcome x a.list.now) c.refused-then-bad-ne-DONE.ensures
+    ∙ refused_out a.rows a.persistent a.rectangles.now a.list.now r.refuse-n.result r.refuse-n.ensures k.if-n-ne-DONE.false
     k.check-bad.result k.check-bad.ensures t.if-bad-ne-DONE.true
 
 pub put_fills-requires : goal.put_fills-requires
@@ -35,7 +35,7 @@ put_fills-requires c =
     let k = t in
     let r = k in
     let a = r.args in
-    taken a.rows a.persistent a.rectangles.now a.list-1.now r.refuse-n.result r.refuse-n.ensures k.if-n-ne-DONE.false
+    taken a.rows a.persistent a.rectangles.now a.list.now r.refuse-n.result r.refuse-n.ensures k.if-n-ne-DONE.false
     k.check-bad.result k.check-bad.ensures t.if-bad-ne-DONE.false
 
 pub returns : goal.returns
@@ -45,5 +45,5 @@ returns c =
     let k = t in
     let r = k in
     let a = r.args in
-    done_out a.rows a.persistent a.rectangles.now a.list-1.now r.refuse-n.result r.refuse-n.ensures k.if-n-ne-DONE.false
+    done_out a.rows a.persistent a.rectangles.now a.list.now r.refuse-n.result r.refuse-n.ensures k.if-n-ne-DONE.false
     k.check-bad.result k.check-bad.ensures t.if-bad-ne-DONE.false _ p.put_fills.ensures

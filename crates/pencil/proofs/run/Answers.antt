@@ -10,7 +10,7 @@ pub returns-then-n-ne-DONE : goal.returns-then-n-ne-DONE
 returns-then-n-ne-DONE c =
     let g = c in
     let a = g.args in
-    given_out pencil a.list.now (board a.state a.memory-1.now a.serial-1.now) g.given-n.result g.given-n.ensures c.if-n-ne-DONE.true
+    given_out pencil a.list.now (board a.state a.memory.now a.serial.now) g.given-n.result g.given-n.ensures c.if-n-ne-DONE.true
 
 pub returns : goal.returns
 returns c =
@@ -19,5 +19,5 @@ returns c =
     let e = k in
     let g = e in
     let a = g.args in
-    checked_out pencil a.list.now (board a.state a.memory-1.now a.serial-1.now) g.given-n.result g.given-n.ensures e.if-n-ne-DONE.false k.check-bad.result
+    checked_out pencil a.list.now (board a.state a.memory.now a.serial.now) g.given-n.result g.given-n.ensures e.if-n-ne-DONE.false k.check-bad.result
     k.check-bad.ensures (outcome f.finish.result f.finish.new.1.0 f.finish.new.1.1.0) f.finish.ensures

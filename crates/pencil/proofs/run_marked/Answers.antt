@@ -9,7 +9,7 @@ pub returns-then-n-ne-DONE : goal.returns-then-n-ne-DONE
 returns-then-n-ne-DONE c =
     let g = c in
     let a = g.args in
-    given_marked a.list.now (board a.state a.memory-1.now a.serial-1.now) g.given-n.result g.given-n.ensures a.marks-1.now c.if-n-ne-DONE.true
+    given_marked a.list.now (board a.state a.memory.now a.serial.now) g.given-n.result g.given-n.ensures a.marks.now c.if-n-ne-DONE.true
 
 pub returns : goal.returns
 returns c =
@@ -18,6 +18,6 @@ returns c =
     let e = m in
     let g = e in
     let a = g.args in
-    checked_marked a.list.now (board a.state a.memory-1.now a.serial-1.now) g.given-n.result g.given-n.ensures a.marks-1.now e.if-n-ne-DONE.false
+    checked_marked a.list.now (board a.state a.memory.now a.serial.now) g.given-n.result g.given-n.ensures a.marks.now e.if-n-ne-DONE.false
     m.mark_list-bad.result m.mark_list-bad.new.1.1.1.0 m.mark_list-bad.ensures (outcome f.finish.result f.finish.new.1.0 f.finish.new.1.1.0)
     f.finish.ensures

@@ -17,7 +17,7 @@ unfolding first_number
 take_all-f-requires c =
     let a = c.args in
     let n = c.first_number-n.ensures in
-    let z = first_zero a.pieces (board a.state a.memory-1.now a.serial-1.now) (sym n.0 ∙ c.if-n-ne-DONE.false) in
+    let z = first_zero a.pieces (board a.state a.memory.now a.serial.now) (sym n.0 ∙ c.if-n-ne-DONE.false) in
     (sound_is _ n.1 z.0, z.1)
 
 pub returns : goal.returns

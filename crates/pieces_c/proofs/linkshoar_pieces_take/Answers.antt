@@ -16,4 +16,4 @@ returns-then-both_lawful c =
 pub returns : goal.returns
 returns c =
     let a = c.args in
-    ap (λ (r : Taken). answered r a.memory-1.now a.serial-1.now) c.excluded.ensures ∙ sym (take_excluded _ _ _ _ (sym c.both_lawful.ensures ∙ c.if-both_lawful.false) _)
+    ap (λ (r : Taken). answered r a.memory.now a.serial.now) c.excluded.ensures ∙ sym (take_excluded _ _ _ _ (sym c.both_lawful.ensures ∙ c.if-both_lawful.false) _)

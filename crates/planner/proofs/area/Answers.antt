@@ -4,8 +4,8 @@ use native.Mathlib.Nat.{mul-le-mul}
 use native.Mathlib.Omega.{arith}
 use Rattle.planner.proofs.area.Goals as goal
 
+pub overflow_mul-result : goal.overflow_mul-result
+overflow_mul-result c = omega (arith, mul-le-mul c.requires.0 c.requires.1)
+
 pub returns : goal.returns
 returns c = (refl, mul-le-mul c.requires.0 c.requires.1)
-
--- LEFT: mul_result : tie.Need-overflow-mul-result
--- mul_result c = omega (arith, mul-le-mul c.requires.0 c.requires.1)

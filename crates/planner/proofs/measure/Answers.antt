@@ -6,62 +6,62 @@ use Rattle.planner.specs.Shapes.{shape_answer}
 use Rattle.planner.specs.ShapeLaws.{says_any, answer_refused, answer_nothing, answer_words, answer_blocks, words_most, blocks_most}
 use Rattle.planner.proofs.measure.Goals as goal
 
+pub overflow_mul-result : goal.overflow_mul-result
+overflow_mul-result c =
+    let m = c in
+    let a = m.args in
+    let f = fill a.rows a.first_row a.end_row a.first_column a.end_column a.mask 0 a.persistent in
+    omega (arith, words_most f _ (says_any a.rows a.first_row a.end_row a.first_column a.end_column a.mask 0 a.persistent _ _ m.shape_of-shape.ensures c.known_told-in-Words-1.is))
+
+pub overflow_mul-result-in-Blocks : goal.overflow_mul-result-in-Blocks
+overflow_mul-result-in-Blocks c =
+    let m = c in
+    let a = m.args in
+    let f = fill a.rows a.first_row a.end_row a.first_column a.end_column a.mask 0 a.persistent in
+    omega (arith, blocks_most f _ (says_any a.rows a.first_row a.end_row a.first_column a.end_column a.mask 0 a.persistent _ _ m.shape_of-shape.ensures c.known_told-in-Blocks-1.is))
+
+pub overflow_add-result : goal.overflow_add-result
+overflow_add-result c =
+    let m = c in
+    let a = m.args in
+    let f = fill a.rows a.first_row a.end_row a.first_column a.end_column a.mask 0 a.persistent in
+    omega (arith, blocks_most f _ (says_any a.rows a.first_row a.end_row a.first_column a.end_column a.mask 0 a.persistent _ _ m.shape_of-shape.ensures c.known_told-in-Blocks-1.is))
+
+pub overflow_add-result-in-Blocks : goal.overflow_add-result-in-Blocks
+overflow_add-result-in-Blocks c =
+    let m = c in
+    let a = m.args in
+    let f = fill a.rows a.first_row a.end_row a.first_column a.end_column a.mask 0 a.persistent in
+    omega (arith, blocks_most f _ (says_any a.rows a.first_row a.end_row a.first_column a.end_column a.mask 0 a.persistent _ _ m.shape_of-shape.ensures c.known_told-in-Blocks-1.is))
+
 pub returns-in-Refused : goal.returns-in-Refused
 unfolding shape_answer
 returns-in-Refused c =
     let m = c in
     let a = m.args in
-    let f = fill a.rows a.first-row a.end_row a.first-column a.end-column a.mask 0 a.persistent in
-    answer_refused f _ (says_any a.rows a.first-row a.end_row a.first-column a.end-column a.mask 0 a.persistent _ _ m.shape_of-shape.ensures c.in-Refused.is)
+    let f = fill a.rows a.first_row a.end_row a.first_column a.end_column a.mask 0 a.persistent in
+    answer_refused f _ (says_any a.rows a.first_row a.end_row a.first_column a.end_column a.mask 0 a.persistent _ _ m.shape_of-shape.ensures c.known_told-1.is)
 
 pub returns-in-Nothing : goal.returns-in-Nothing
 unfolding shape_answer
 returns-in-Nothing c =
     let m = c in
     let a = m.args in
-    let f = fill a.rows a.first-row a.end_row a.first-column a.end-column a.mask 0 a.persistent in
-    answer_nothing f 0 (says_any a.rows a.first-row a.end_row a.first-column a.end-column a.mask 0 a.persistent _ _ m.shape_of-shape.ensures c.in-Nothing.is)
+    let f = fill a.rows a.first_row a.end_row a.first_column a.end_column a.mask 0 a.persistent in
+    answer_nothing f 0 (says_any a.rows a.first_row a.end_row a.first_column a.end_column a.mask 0 a.persistent _ _ m.shape_of-shape.ensures c.enum_told-1.is)
 
 pub returns-in-Words : goal.returns-in-Words
 unfolding shape_answer
 returns-in-Words c =
     let m = c in
     let a = m.args in
-    let f = fill a.rows a.first-row a.end_row a.first-column a.end-column a.mask 0 a.persistent in
-    answer_words f _ (says_any a.rows a.first-row a.end_row a.first-column a.end-column a.mask 0 a.persistent _ _ m.shape_of-shape.ensures c.in-Words.is)
+    let f = fill a.rows a.first_row a.end_row a.first_column a.end_column a.mask 0 a.persistent in
+    answer_words f _ (says_any a.rows a.first_row a.end_row a.first_column a.end_column a.mask 0 a.persistent _ _ m.shape_of-shape.ensures c.known_told-in-Words-1.is)
 
 pub returns-in-Blocks : goal.returns-in-Blocks
 unfolding shape_answer
 returns-in-Blocks c =
     let m = c in
     let a = m.args in
-    let f = fill a.rows a.first-row a.end_row a.first-column a.end-column a.mask 0 a.persistent in
-    answer_blocks f _ (says_any a.rows a.first-row a.end_row a.first-column a.end-column a.mask 0 a.persistent _ _ m.shape_of-shape.ensures c.in-Blocks.is)
-
--- LEFT: mul_t13 : tie.Need-overflow-mul-t13
--- mul_t13 c =
---     let m = c.before.before.before in
---     let a = m.before.args in
---     let f = fill a.rows a.first-row a.end_row a.first-column a.end-column a.mask 0 a.persistent in
---     omega (arith, words_most f _ (says_any a.rows a.first-row a.end_row a.first-column a.end-column a.mask 0 a.persistent _ _ m.shape_of.ensures c.before.shape2.given.1))
-
--- LEFT: mul_t14 : tie.Need-overflow-mul-t14
--- mul_t14 c =
---     let m = c.before.before.before in
---     let a = m.before.args in
---     let f = fill a.rows a.first-row a.end_row a.first-column a.end-column a.mask 0 a.persistent in
---     omega (arith, blocks_most f _ (says_any a.rows a.first-row a.end_row a.first-column a.end-column a.mask 0 a.persistent _ _ m.shape_of.ensures c.before.shape3.given.1))
-
--- LEFT: add_t15 : tie.Need-overflow-add-t15
--- add_t15 c =
---     let m = c.before.before.before in
---     let a = m.before.args in
---     let f = fill a.rows a.first-row a.end_row a.first-column a.end-column a.mask 0 a.persistent in
---     omega (arith, blocks_most f _ (says_any a.rows a.first-row a.end_row a.first-column a.end-column a.mask 0 a.persistent _ _ m.shape_of.ensures c.before.shape3.given.1))
-
--- LEFT: add_t16 : tie.Need-overflow-add-t16
--- add_t16 c =
---     let m = c.before.before.before in
---     let a = m.before.args in
---     let f = fill a.rows a.first-row a.end_row a.first-column a.end-column a.mask 0 a.persistent in
---     omega (arith, blocks_most f _ (says_any a.rows a.first-row a.end_row a.first-column a.end-column a.mask 0 a.persistent _ _ m.shape_of.ensures c.before.shape3.given.1))
+    let f = fill a.rows a.first_row a.end_row a.first_column a.end_column a.mask 0 a.persistent in
+    answer_blocks f _ (says_any a.rows a.first_row a.end_row a.first_column a.end_column a.mask 0 a.persistent _ _ m.shape_of-shape.ensures c.known_told-in-Blocks-1.is)

@@ -9,7 +9,7 @@ pub put_bytes-requires : goal.put_bytes-requires
 put_bytes-requires c =
     let e = c in
     let a = e.args in
-    omega (arith, tell_room a.bytes.now a.text-1.now _ e.refuse-n.ensures e.if-n-ne-DONE.false)
+    omega (arith, tell_room a.bytes.now a.text.now _ e.refuse-n.ensures e.if-n-ne-DONE.false)
 
 pub returns-then-n-ne-DONE : goal.returns-then-n-ne-DONE
 returns-then-n-ne-DONE c = tell_refused _ _ _ c.refuse-n.ensures c.if-n-ne-DONE.true

@@ -6,6 +6,13 @@ use Rattle.list.proofs.run.Reads as run_reads
 use Rattle.vram.proofs.Vram.fresh.Reads as fresh_reads
 use Rattle.report.proofs.write_lines.Goals as goal
 
+pub overflow_cast-ran : goal.overflow_cast-ran
+overflow_cast-ran c =
+    let r = c in
+    let f = r in
+    let s = f in
+    omega (arith, (ran_few s.args.list.now _ f.fresh.ensures _ _ _ r.run-ran.ensures s.requires.0).1)
+
 pub put_lines-requires : goal.put_lines-requires
 put_lines-requires c =
     let r = c in
@@ -21,10 +28,3 @@ returns c =
     let f = r in
     let s = f in
     rw (← (ran_lines s.args.list.now _ f.fresh.ensures _ _ _ r.run-ran.ensures)) p.put_lines.ensures
-
--- LEFT: cast_put_lines : tie.Need-overflow-cast-put-lines
--- cast_put_lines c =
---     let r = c.before.before.before.before in
---     let f = r.before.before.before in
---     let s = f.before.before.before in
---     omega (arith, (ran_few s.args.list.now _ f.fresh.ensures _ _ _ r.run.ensures s.requires.0).1)

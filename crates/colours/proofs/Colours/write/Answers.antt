@@ -14,6 +14,14 @@ returns-then-n-ne-DONE c =
     let d = i in
     rw c.coloured.ensures (written_refused _ _ d.refusal-n.result _ _ _ (rw d.table_refusal-n.ensures at d.refusal-n.ensures) i.if-n-ne-DONE.true)
 
+pub overflow_cast-table : goal.overflow_cast-table
+unfolding write_refusal
+overflow_cast-table c =
+    let d = c in
+    let a = d.args in
+    let n = rw d.table_refusal-n.ensures at d.refusal-n.ensures in
+    omega (arith, (write_zero a.self (length a.table.now) a.address a.value (sym n ∙ c.if-n-ne-DONE.false)).1)
+
 pub bounds-table-address : goal.bounds-table-address
 unfolding write_refusal
 bounds-table-address c =
@@ -30,11 +38,3 @@ returns c =
     let d = i in
     rw c.coloured-2.ensures
     (written_done _ _ d.refusal-n.result _ _ _ (rw d.table_refusal-n.ensures at d.refusal-n.ensures) i.if-n-ne-DONE.false c.with_waiting.ensures refl)
-
--- LEFT: cast_table : tie.Need-overflow-cast-table
--- unfolding write_refusal
--- cast_table c =
---     let d = c.before in
---     let a = d.before.before.before.args in
---     let n = rw d.before.table-refusal.ensures at d.refusal.ensures in
---     omega (arith, (write_zero a.self (length a.table.now) a.address a.value (sym n ∙ c.if1.false)).1)

@@ -9,11 +9,11 @@ returns-then-inhibited-overrides c =
     let o = c in
     advanced_stays o.args.self o.overrides-overrides.result o.overrides-overrides.ensures c.if-inhibited-overrides.true
 
+pub overflow_add-self : goal.overflow_add-self
+overflow_add-self c = let s = c in omega (arith, ruled_parts s.args.self s.requires)
+
 pub returns : goal.returns
 returns c =
     let i = c in
     let o = i in
     advanced_adds o.args.self o.overrides-overrides.result o.overrides-overrides.ensures i.if-inhibited-overrides.false c.with_counter.ensures
-
--- LEFT: add_with_counter : tie.Need-overflow-add-with-counter
--- add_with_counter c = let s = c.before.before.before.before in omega (arith, ruled_parts s.args.self s.requires)

@@ -12,6 +12,14 @@ returns-then-n-ne-DONE c =
     c.fetched.ensures
     ∙ fetch_refused o.args.self _ (rw o.overrides-overrides.ensures at d.refusal-n.ensures) c.if-n-ne-DONE.true
 
+pub overflow_add-next : goal.overflow_add-next
+unfolding allows against
+overflow_add-next c =
+    let d = c in
+    let o = d in
+    let g = call_given Fetch o.args.self d.refusal-n.result (rw o.overrides-overrides.ensures at d.refusal-n.ensures) c.if-n-ne-DONE.false in
+    omega (arith, g.rule.counter)
+
 pub fetched-requires-2 : goal.fetched-requires-2
 unfolding allows against
 fetched-requires-2 c =
@@ -30,11 +38,3 @@ returns c =
     c.fetched-2.ensures
     ∙ fetch_done o.args.self d.refusal-n.result (rw o.overrides-overrides.ensures at d.refusal-n.ensures) i.if-n-ne-DONE.false
     c.with_counter.ensures
-
--- LEFT: add_next : tie.Need-overflow-add-next
--- unfolding allows against
--- add_next c =
---     let d = c.before in
---     let o = d.before in
---     let g = call_given Fetch o.before.args.self d.refusal.result (rw o.overrides.ensures at d.refusal.ensures) c.if1.false in
---     omega (arith, g.rule.counter)

@@ -2,8 +2,8 @@
 use Rattle.std.proofs.Common.{refl, arith, rules}
 use Rattle.controller.proofs.Controller.fetched.Goals as goal
 
+pub overflow_cast-bank : goal.overflow_cast-bank
+overflow_cast-bank c = omega arith
+
 pub returns : goal.returns
 returns c = refl
-
--- LEFT: cast_bank : tie.Need-overflow-cast-bank
--- cast_bank c = omega arith

@@ -13,6 +13,15 @@ returns-then-n-ne-DONE c =
     ∙ call_refused (SetMode a.cycles a.page a.update) a.self _ (rw d.mode_allowed.ensures at d.refusal-n.ensures)
     c.if-n-ne-DONE.true
 
+pub overflow_cast-cycles : goal.overflow_cast-cycles
+unfolding allows against
+overflow_cast-cycles c =
+    let d = c in
+    let a = d.args in
+    let n = rw d.mode_allowed.ensures at d.refusal-n.ensures in
+    let g = call_given (SetMode a.cycles a.page a.update) a.self d.refusal-n.result n c.if-n-ne-DONE.false in
+    omega (arith, (mode_parts a.cycles a.page a.update g.allowed).0)
+
 pub returns : goal.returns
 unfolding allows against effect
 returns c =
@@ -24,12 +33,3 @@ returns c =
     c.controlled-2.ensures
     ∙ call_done (SetMode a.cycles a.page a.update) a.self d.refusal-n.result n i.if-n-ne-DONE.false
     (rw m.of.ensures at m.with_mode.ensures)
-
--- LEFT: cast_with_mode : tie.Need-overflow-cast-with-mode
--- unfolding allows against
--- cast_with_mode c =
---     let d = c.before in
---     let a = d.before.before.args in
---     let n = rw d.before.mode-allowed.ensures at d.refusal.ensures in
---     let g = call_given (SetMode a.cycles a.page a.update) a.self d.refusal.result n c.if1.false in
---     omega (arith, (mode_parts a.cycles a.page a.update g.allowed).0)

@@ -11,6 +11,14 @@ returns-then-n-ne-DONE c =
     let a = d.args in
     c.controlled.ensures ∙ call_refused (SetOffset a.offset) a.self _ d.refusal-n.ensures c.if-n-ne-DONE.true
 
+pub overflow_cast-offset : goal.overflow_cast-offset
+unfolding allows against
+overflow_cast-offset c =
+    let d = c in
+    let a = d.args in
+    let g = call_given (SetOffset a.offset) a.self d.refusal-n.result d.refusal-n.ensures c.if-n-ne-DONE.false in
+    omega (arith, leb-true a.offset 255 g.allowed)
+
 pub returns : goal.returns
 unfolding allows against effect
 returns c =
@@ -19,11 +27,3 @@ returns c =
     let a = d.args in
     c.controlled-2.ensures
     ∙ call_done (SetOffset a.offset) a.self d.refusal-n.result d.refusal-n.ensures i.if-n-ne-DONE.false c.offset_set.ensures
-
--- LEFT: cast_offset_set : tie.Need-overflow-cast-offset-set
--- unfolding allows against
--- cast_offset_set c =
---     let d = c.before in
---     let a = d.before.args in
---     let g = call_given (SetOffset a.offset) a.self d.refusal.result d.refusal.ensures c.if1.false in
---     omega (arith, leb-true a.offset 255 g.allowed)

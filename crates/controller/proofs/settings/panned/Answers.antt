@@ -37,17 +37,17 @@ module _ (top : ℕ) (words : ℤ) (f : SFits w32 words) (h : top < 262144) (r :
       subst (λ (z : ℤ). T (non_neg z) × Fits w32 (nat_abs z)) (sym whole)
       (tt, record { fits = omega (arith, raised_mag (pos top +ℤ words) near) })
 
+pub overflow_add-sum : goal.overflow_add-sum
+overflow_add-sum c = first_fits c.args.top c.args.words c.ranges.words c.requires.0 c.requires.1
+
+pub overflow_add-sum-2 : goal.overflow_add-sum-2
+overflow_add-sum-2 c = second_fits c.args.top c.args.words c.ranges.words c.requires.0 c.requires.1
+
+pub overflow_cast-result : goal.overflow_cast-result
+overflow_cast-result c = whole_fits c.args.top c.args.words c.ranges.words c.requires.0 c.requires.1
+
 pub returns : goal.returns
 returns c =
     let z = pos c.args.top +ℤ c.args.words in
     ap (λ (y : ℤ). nat_abs y % 262144) (whole c.args.top c.args.words c.ranges.words c.requires.0 c.requires.1)
     ∙ raised_wraps z (sum_near c.args.top c.args.words c.requires.0 c.requires.1)
-
--- LEFT: add_sum : tie.Need-overflow-add-sum
--- add_sum c = first_fits c.args.top c.args.words c.ranges.words c.requires.0 c.requires.1
-
--- LEFT: add_sum_2 : tie.Need-overflow-add-sum-2
--- add_sum_2 c = second_fits c.args.top c.args.words c.ranges.words c.requires.0 c.requires.1
-
--- LEFT: cast_result : tie.Need-overflow-cast-result
--- cast_result c = whole_fits c.args.top c.args.words c.ranges.words c.requires.0 c.requires.1

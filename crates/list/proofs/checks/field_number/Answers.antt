@@ -7,6 +7,11 @@ use Rattle.list.proofs.Turns.{number_of_body}
 use borrow.Author.Rules.{rules}
 use Rattle.list.proofs.checks.field_number.Goals as goal
 
+pub slice_bounds-body_number-end : goal.slice_bounds-body_number-end
+slice_bounds-body_number-end c =
+    let w = c in
+    omega (arith, whole_length w.args.field.now (sym w.whole.ensures ∙ w.if-whole.true), c.body_length-end.ensures.0)
+
 pub returns-then-whole : goal.returns-then-whole
 returns-then-whole c =
     let b = c in
@@ -16,8 +21,3 @@ returns-then-whole c =
 
 pub returns-else-whole : goal.returns-else-whole
 returns-else-whole c = sym (number_not _ (sym c.whole.ensures ∙ c.if-whole.false) _ _)
-
--- LEFT: part_body_number_end : tie.Need-slice-bounds-body-number-end
--- part_body_number_end c =
---     let w = c.before.before in
---     omega (arith, whole_length w.before.before.before.args.field.now (sym w.before.whole.ensures ∙ w.if1.true), c.body_length.ensures.0)

@@ -14,6 +14,23 @@ use Rattle.list.proofs.runs.run_fields.Goals as goal
 pub loop-rest-init : goal.loop-rest-init
 loop-rest-init c = (refl, refl, c.requires, refl)
 
+pub slice_bounds-cycle_of-end : goal.slice_bounds-cycle_of-end
+slice_bounds-cycle_of-end c =
+    let t = c in
+    omega (arith, run_fits t.loop-rest.rest.now t.loop-rest-test.true t.loop-rest.invariant.2 c.body_length-size.result c.body_length-size.ensures.0)
+
+pub slice_bounds-rest-count : goal.slice_bounds-rest-count
+slice_bounds-rest-count c =
+    let b = c in
+    let t = b in
+    omega (arith, run_fits t.loop-rest.rest.now t.loop-rest-test.true t.loop-rest.invariant.2 b.body_length-size.result b.body_length-size.ensures.0)
+
+pub slice_bounds-rest-start : goal.slice_bounds-rest-start
+slice_bounds-rest-start c =
+    let b = c in
+    let t = b in
+    omega (arith, run_fits t.loop-rest.rest.now t.loop-rest-test.true t.loop-rest.invariant.2 b.body_length-size.result b.body_length-size.ensures.0)
+
 pub loop-rest-preserved : goal.loop-rest-preserved
 loop-rest-preserved c =
     let k = c in
@@ -23,9 +40,9 @@ loop-rest-preserved c =
     let l = t.loop-rest in (
       k.cycle-answer.auto.1.0 ∙ l.invariant.0,
       k.cycle-answer.auto.1.1.0 ∙ l.invariant.1,
-      run_readable l.rest-1.now t.loop-rest-test.true l.invariant.2 b.body_length-size.result b.body_length-size.ensures.0,
-      turn_run l.rest-1.now t.loop-rest-test.true l.invariant.2 b.body_length-size.result b.body_length-size.ensures.0
-          (board l.current-1 l.memory-1 l.serial-1) f.cycle_of-cycle.result f.cycle_of-cycle.ensures _ k.cycle-answer.ensures
+      run_readable l.rest.now t.loop-rest-test.true l.invariant.2 b.body_length-size.result b.body_length-size.ensures.0,
+      turn_run l.rest.now t.loop-rest-test.true l.invariant.2 b.body_length-size.result b.body_length-size.ensures.0
+          (board l.current l.memory l.serial) f.cycle_of-cycle.result f.cycle_of-cycle.ensures _ k.cycle-answer.ensures
           ∙ l.invariant.3,
     )
 
@@ -45,21 +62,4 @@ shape_of-serial c = c.loop-rest.invariant.1
 pub returns : goal.returns
 returns c =
     let l = c.loop-rest in
-    end_run (board l.current-1 l.memory-1 l.serial-1) l.rest-1.now c.loop-rest-test.false ∙ l.invariant.3
-
--- LEFT: part_cycle_of_end : tie.Need-slice-bounds-cycle-of-end invariant-loop decreases-loop
--- part_cycle_of_end c =
---     let t = c.before.before in
---     omega (arith, run_fits t.before.loop.rest.now t.loop-test.true t.before.loop.invariant.2 c.body_length.result c.body_length.ensures.0)
-
--- LEFT: sub_rest : tie.Need-overflow-sub-rest invariant-loop decreases-loop
--- sub_rest c =
---     let b = c.before.before.before.before.before.before.before.before.before.before in
---     let t = b.before.before in
---     omega (arith, run_fits t.before.loop.rest.now t.loop-test.true t.before.loop.invariant.2 b.body_length.result b.body_length.ensures.0)
-
--- LEFT: part_rest_start : tie.Need-slice-bounds-rest-start invariant-loop decreases-loop
--- part_rest_start c =
---     let b = c.before.before.before.before.before.before.before.before.before.before in
---     let t = b.before.before in
---     omega (arith, run_fits t.before.loop.rest.now t.loop-test.true t.before.loop.invariant.2 b.body_length.result b.body_length.ensures.0)
+    end_run (board l.current l.memory l.serial) l.rest.now c.loop-rest-test.false ∙ l.invariant.3

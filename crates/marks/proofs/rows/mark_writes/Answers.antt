@@ -20,13 +20,37 @@ pub bounds-rest-2 : goal.bounds-rest-2
 bounds-rest-2 c =
     let t = c in
     let l = t.loop-rest in
-    first_header l.rest-1.now t.loop-rest-test.true l.invariant.1
+    first_header l.rest.now t.loop-rest-test.true l.invariant.1
+
+pub overflow_cast-size : goal.overflow_cast-size
+overflow_cast-size c =
+    let t = c in
+    let l = t.loop-rest in
+    omega (arith, first_low l.rest.now t.loop-rest-test.true l.invariant.1)
+
+pub overflow_add-size : goal.overflow_add-size
+overflow_add-size c =
+    let t = c in
+    let l = t.loop-rest in
+    omega (arith, first_low l.rest.now t.loop-rest-test.true l.invariant.1)
+
+pub slice_bounds-rest-count : goal.slice_bounds-rest-count
+slice_bounds-rest-count c =
+    let t = c in
+    let l = t.loop-rest in
+    first_fits l.rest.now t.loop-rest-test.true l.invariant.1 _ refl
+
+pub slice_bounds-rest-start : goal.slice_bounds-rest-start
+slice_bounds-rest-start c =
+    let t = c in
+    let l = t.loop-rest in
+    first_fits l.rest.now t.loop-rest-test.true l.invariant.1 _ refl
 
 pub loop-rest-smaller : goal.loop-rest-smaller
 loop-rest-smaller c =
     let t = c in
     let l = t.loop-rest in
-    rest_less l.rest-1.now t.loop-rest-test.true l.invariant.1 _ refl
+    rest_less l.rest.now t.loop-rest-test.true l.invariant.1 _ refl
 
 pub loop-rest-preserved : goal.loop-rest-preserved
 loop-rest-preserved c =
@@ -34,8 +58,8 @@ loop-rest-preserved c =
     let t = m in
     let l = t.loop-rest in (
       m.mark_field.auto.1.0 ∙ l.invariant.0,
-      rest_readable l.rest-1.now t.loop-rest-test.true l.invariant.1 _ refl,
-      turn_marks l.rest-1.now t.loop-rest-test.true l.invariant.1 _ refl l.marks-1 _ m.mark_field.ensures ∙ l.invariant.2,
+      rest_readable l.rest.now t.loop-rest-test.true l.invariant.1 _ refl,
+      turn_marks l.rest.now t.loop-rest-test.true l.invariant.1 _ refl l.marks _ m.mark_field.ensures ∙ l.invariant.2,
     )
 
 pub shape_of-marks : goal.shape_of-marks
@@ -43,27 +67,3 @@ shape_of-marks c = c.loop-rest.invariant.0
 
 pub returns : goal.returns
 returns c = end_marks c.loop-rest.rest.now c.loop-rest.marks c.loop-rest-test.false ∙ c.loop-rest.invariant.2
-
--- LEFT: cast_size : tie.Need-overflow-cast-size invariant-loop decreases-loop
--- cast_size c =
---     let t = c.before.before.before.before.before in
---     let l = t.before.loop in
---     omega (arith, first_low l.rest.now t.loop-test.true l.invariant.1)
-
--- LEFT: add_size : tie.Need-overflow-add-size invariant-loop decreases-loop
--- add_size c =
---     let t = c.before.before.before.before.before in
---     let l = t.before.loop in
---     omega (arith, first_low l.rest.now t.loop-test.true l.invariant.1)
-
--- LEFT: sub_rest : tie.Need-overflow-sub-rest invariant-loop decreases-loop
--- sub_rest c =
---     let t = c.before.before.before.before.before in
---     let l = t.before.loop in
---     first_fits l.rest.now t.loop-test.true l.invariant.1 _ refl
-
--- LEFT: part_rest_start : tie.Need-slice-bounds-rest-start invariant-loop decreases-loop
--- part_rest_start c =
---     let t = c.before.before.before.before.before in
---     let l = t.before.loop in
---     first_fits l.rest.now t.loop-test.true l.invariant.1 _ refl

@@ -18,13 +18,29 @@ loop-rest-init c =
     let z : length a.rectangles.now - length a.rectangles.now ≡ 0 = omega arith in
     (omega arith, ap (λ (at : ℕ). judged a.rows a.persistent (Left a.room) at (items a.rectangles.now)) z)
 
+pub slice_bounds-rest-count : goal.slice_bounds-rest-count
+slice_bounds-rest-count c =
+    let e = c in
+    let f = e in
+    let l = f.loop-rest in
+    let p = f.requires in
+    turn_fits _ p.0 p.1 0 l.left l.rest.now f.measure_field-fill.result f.measure_field-fill.ensures e.if-n-ne-DONE.false
+
+pub slice_bounds-rest-start : goal.slice_bounds-rest-start
+slice_bounds-rest-start c =
+    let e = c in
+    let f = e in
+    let l = f.loop-rest in
+    let p = f.requires in
+    omega (arith, turn_fits _ p.0 p.1 0 l.left l.rest.now f.measure_field-fill.result f.measure_field-fill.ensures e.if-n-ne-DONE.false)
+
 pub loop-rest-smaller : goal.loop-rest-smaller
 loop-rest-smaller c =
     let e = c in
     let f = e in
     let l = f.loop-rest in
     let p = f.requires in
-    rest_less l.rest-1.now (turn_fits _ p.0 p.1 0 l.left l.rest-1.now f.measure_field-fill.result f.measure_field-fill.ensures e.if-n-ne-DONE.false)
+    rest_less l.rest.now (turn_fits _ p.0 p.1 0 l.left l.rest.now f.measure_field-fill.result f.measure_field-fill.ensures e.if-n-ne-DONE.false)
 
 pub loop-rest-preserved : goal.loop-rest-preserved
 loop-rest-preserved c =
@@ -33,8 +49,8 @@ loop-rest-preserved c =
     let f = e in
     let l = f.loop-rest in
     let p = f.requires in (
-      rest_within l.rest-1.now _ l.invariant.0,
-      turn_good _ p.0 p.1 _ l.left l.rest-1.now f.measure_field-fill.result f.measure_field-fill.ensures e.if-n-ne-DONE.false
+      rest_within l.rest.now _ l.invariant.0,
+      turn_good _ p.0 p.1 _ l.left l.rest.now f.measure_field-fill.result f.measure_field-fill.ensures e.if-n-ne-DONE.false
           _ l.invariant.0 t.take_room-left.result t.take_room-left.ensures
           ∙ l.invariant.1,
     )
@@ -46,7 +62,7 @@ returns-then-bad-ne-DONE c =
     let p = j.requires in
     ⊎_elim
     (λ x. absurd (c.if-bad-ne-DONE.true (ap (λ (v : Bad). v.number) x.1)))
-    (λ y. y.3 ∙ turn_bad _ p.0 p.1 _ l.left l.rest-1.now y.1.result y.1.ensures y.0.left y.2.taken _ ∙ l.invariant.1)
+    (λ y. y.3 ∙ turn_bad _ p.0 p.1 _ l.left l.rest.now y.1.result y.1.ensures y.0.left y.2.taken _ ∙ l.invariant.1)
     j.if-rest-eq0.branch
 
 pub returns : goal.returns
@@ -57,22 +73,6 @@ returns c =
     let l = j.loop-rest in
     let p = j.requires in
     ⊎_elim
-    (λ x. rw (c.refuse.ensures, r.room_number.ensures) (end_check _ p.0 p.1 _ l.left l.rest-1.now x.0.taken _ ∙ l.invariant.1))
+    (λ x. rw (c.refuse.ensures, r.room_number.ensures) (end_check _ p.0 p.1 _ l.left l.rest.now x.0.taken _ ∙ l.invariant.1))
     (λ y. absurd (y.2.taken (sym (ap (λ (v : Bad). v.number) y.3) ∙ e.if-bad-ne-DONE.false)))
     j.if-rest-eq0.branch
-
--- LEFT: sub_rest : tie.Need-overflow-sub-rest invariant-loop decreases-loop
--- sub_rest c =
---     let e = c.before in
---     let f = e.before in
---     let l = f.before.before.loop in
---     let p = f.before.before.before.before.requires in
---     turn_fits _ p.0 p.1 0 l.left l.rest.now f.measure-field.result f.measure-field.ensures e.if2.false
-
--- LEFT: part_rest_start : tie.Need-slice-bounds-rest-start invariant-loop decreases-loop
--- part_rest_start c =
---     let e = c.before in
---     let f = e.before in
---     let l = f.before.before.loop in
---     let p = f.before.before.before.before.requires in
---     omega (arith, turn_fits _ p.0 p.1 0 l.left l.rest.now f.measure-field.result f.measure-field.ensures e.if2.false)

@@ -10,6 +10,9 @@ use Rattle.page.specs.Calls.{measured}
 use borrow.Author.Rules.{rules}
 use Rattle.page.proofs.checks.measure_field.Goals as goal
 
+pub slice_bounds-rectangle_of-end : goal.slice_bounds-rectangle_of-end
+slice_bounds-rectangle_of-end c = omega (arith, whole_length _ (sym c.whole.ensures ∙ c.if-whole.true))
+
 pub returns-then-whole : goal.returns-then-whole
 unfolding measured
 returns-then-whole c =
@@ -27,6 +30,3 @@ unfolding measured
 returns-else-whole c =
     let a = c.args in
     sym (ap (measured a.rows) (item_not a.field.now (sym c.whole.ensures ∙ c.if-whole.false)))
-
--- LEFT: part_rectangle_of_end : tie.Need-slice-bounds-rectangle-of-end
--- part_rectangle_of_end c = omega (arith, whole_length _ (sym c.before.whole.ensures ∙ c.if1.true))

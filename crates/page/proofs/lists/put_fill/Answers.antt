@@ -11,4 +11,4 @@ returns c =
     let f = c in
     let k = f in
     let a = k.args in
-    f.linkshoar_fill.ensures.0 ∙ ap (λ (r : Rectangle). fill_call (fill_of a.rows r) a.list-1.now) k.rectangle_of-r.ensures
+    f.linkshoar_fill.ensures.outcome ∙ ap (λ (r : Rectangle). fill_call (fill_of a.rows r) a.list.now) k.rectangle_of-r.ensures

@@ -14,19 +14,63 @@ use Rattle.page.proofs.lists.put_fills.Goals as goal
 pub loop-rest-init : goal.loop-rest-init
 loop-rest-init c = (refl, c.requires.2, omega arith, omega arith, refl)
 
+pub slice_bounds-put_fill-count : goal.slice_bounds-put_fill-count
+slice_bounds-put_fill-count c =
+    let l = c.loop-rest in
+    omega (arith, l.invariant.0, l.invariant.2, c.requires.3)
+
+pub slice_bounds-put_fill-start : goal.slice_bounds-put_fill-start
+slice_bounds-put_fill-start c =
+    let l = c.loop-rest in
+    omega (arith, l.invariant.0, l.invariant.2, c.requires.3)
+
 pub put_fill-fill-requires : goal.put_fill-fill-requires
 put_fill-fill-requires c =
     let i = c in
     let l = i.loop-rest in
     let p = i.requires in
-    put_fits _ p.0 p.1 l.rest-1.now i.loop-rest-test.true l.invariant.1
+    put_fits _ p.0 p.1 l.rest.now i.loop-rest-test.true l.invariant.1
+
+pub overflow_add-at : goal.overflow_add-at
+overflow_add-at c =
+    let w = c in
+    let i = w in
+    let l = i.loop-rest in
+    let p = i.requires in
+    let a = i.args in
+    let h : l.at + length (joined (fills_of a.rows l.rest.now)) ≤ length l.list = omega (arith, l.invariant.0, l.invariant.2, p.3) in
+    omega (arith, put_at a.rows p.0 p.1 l.rest.now i.loop-rest-test.true l.invariant.1 l.list w.put_fill-fill.new.1.1.0 l.at h w.put_fill-fill.result w.put_fill-fill.ensures, h)
+
+pub overflow_add-cycles : goal.overflow_add-cycles
+overflow_add-cycles c =
+    let w = c in
+    let i = w in
+    let l = i.loop-rest in
+    let p = i.requires in
+    let a = i.args in
+    let h : l.at + length (joined (fills_of a.rows l.rest.now)) ≤ length l.list = omega (arith, l.invariant.0, l.invariant.2, p.3) in
+    omega (arith, put_count a.rows p.0 p.1 l.rest.now i.loop-rest-test.true l.invariant.1 l.list w.put_fill-fill.new.1.1.0 l.at h w.put_fill-fill.result w.put_fill-fill.ensures l.cycles, l.invariant.3, count_within (plans (fills_of a.rows a.rectangles.now)), p.3)
+
+pub slice_bounds-rest-count : goal.slice_bounds-rest-count
+slice_bounds-rest-count c =
+    let i = c in
+    let l = i.loop-rest in
+    let p = i.requires in
+    put_fits _ p.0 p.1 l.rest.now i.loop-rest-test.true l.invariant.1
+
+pub slice_bounds-rest-start : goal.slice_bounds-rest-start
+slice_bounds-rest-start c =
+    let i = c in
+    let l = i.loop-rest in
+    let p = i.requires in
+    omega (arith, put_fits _ p.0 p.1 l.rest.now i.loop-rest-test.true l.invariant.1)
 
 pub loop-rest-smaller : goal.loop-rest-smaller
 loop-rest-smaller c =
     let i = c in
     let l = i.loop-rest in
     let p = i.requires in
-    rest_less l.rest-1.now (put_fits _ p.0 p.1 l.rest-1.now i.loop-rest-test.true l.invariant.1)
+    rest_less l.rest.now (put_fits _ p.0 p.1 l.rest.now i.loop-rest-test.true l.invariant.1)
 
 pub loop-rest-preserved : goal.loop-rest-preserved
 loop-rest-preserved c =
@@ -35,12 +79,12 @@ loop-rest-preserved c =
     let l = i.loop-rest in
     let p = i.requires in
     let a = i.args in
-    let h : l.at + length (joined (fills_of a.rows l.rest-1.now)) ≤ length l.list-1 = omega (arith, l.invariant.0, l.invariant.2, p.3) in (
-      put_length a.rows p.0 p.1 l.rest-1.now i.loop-rest-test.true l.invariant.1 l.list-1 w.put_fill-fill.new.1.1.0 l.at h w.put_fill-fill.result w.put_fill-fill.ensures ∙ l.invariant.0,
-      put_accepted a.rows p.0 p.1 l.rest-1.now i.loop-rest-test.true l.invariant.1,
-      put_at a.rows p.0 p.1 l.rest-1.now i.loop-rest-test.true l.invariant.1 l.list-1 w.put_fill-fill.new.1.1.0 l.at h w.put_fill-fill.result w.put_fill-fill.ensures ∙ l.invariant.2,
-      put_count a.rows p.0 p.1 l.rest-1.now i.loop-rest-test.true l.invariant.1 l.list-1 w.put_fill-fill.new.1.1.0 l.at h w.put_fill-fill.result w.put_fill-fill.ensures l.cycles ∙ l.invariant.3,
-      put_list a.rows p.0 p.1 l.rest-1.now i.loop-rest-test.true l.invariant.1 l.list-1 w.put_fill-fill.new.1.1.0 l.at h w.put_fill-fill.result w.put_fill-fill.ensures ∙ l.invariant.4,
+    let h : l.at + length (joined (fills_of a.rows l.rest.now)) ≤ length l.list = omega (arith, l.invariant.0, l.invariant.2, p.3) in (
+      put_length a.rows p.0 p.1 l.rest.now i.loop-rest-test.true l.invariant.1 l.list w.put_fill-fill.new.1.1.0 l.at h w.put_fill-fill.result w.put_fill-fill.ensures ∙ l.invariant.0,
+      put_accepted a.rows p.0 p.1 l.rest.now i.loop-rest-test.true l.invariant.1,
+      put_at a.rows p.0 p.1 l.rest.now i.loop-rest-test.true l.invariant.1 l.list w.put_fill-fill.new.1.1.0 l.at h w.put_fill-fill.result w.put_fill-fill.ensures ∙ l.invariant.2,
+      put_count a.rows p.0 p.1 l.rest.now i.loop-rest-test.true l.invariant.1 l.list w.put_fill-fill.new.1.1.0 l.at h w.put_fill-fill.result w.put_fill-fill.ensures l.cycles ∙ l.invariant.3,
+      put_list a.rows p.0 p.1 l.rest.now i.loop-rest-test.true l.invariant.1 l.list w.put_fill-fill.new.1.1.0 l.at h w.put_fill-fill.result w.put_fill-fill.ensures ∙ l.invariant.4,
     )
 
 pub shape_of-list : goal.shape_of-list
@@ -50,49 +94,5 @@ pub returns : goal.returns
 returns c =
     let l = c.loop-rest in
     let a = c.args in
-    end_put a.rows l.rest-1.now c.loop-rest-test.false a.rectangles.now a.list-1.now l.list-1 l.at l.cycles
+    end_put a.rows l.rest.now c.loop-rest-test.false a.rectangles.now a.list.now l.list l.at l.cycles
     c.requires.3 l.invariant.2 l.invariant.3 l.invariant.4
-
--- LEFT: sub_put_fill : tie.Need-overflow-sub-put-fill invariant-loop decreases-loop
--- sub_put_fill c =
---     let l = c.before.loop in
---     omega (arith, l.invariant.0, l.invariant.2, c.before.before.before.before.requires.3)
-
--- LEFT: part_put_fill_start : tie.Need-slice-bounds-put-fill-start invariant-loop decreases-loop
--- part_put_fill_start c =
---     let l = c.before.loop in
---     omega (arith, l.invariant.0, l.invariant.2, c.before.before.before.before.requires.3)
-
--- LEFT: add_at : tie.Need-overflow-add-at invariant-loop decreases-loop
--- add_at c =
---     let w = c.before.before.before in
---     let i = w.before.before in
---     let l = i.before.loop in
---     let p = i.before.before.before.before.requires in
---     let a = i.before.before.before.before.args in
---     let h : l.at + length (joined (fills_of a.rows l.rest.now)) ≤ length l.list = omega (arith, l.invariant.0, l.invariant.2, p.3) in
---     omega (arith, put_at a.rows p.0 p.1 l.rest.now i.loop-test.true l.invariant.1 l.list w.put_fill.new.1.1.0 l.at h w.put_fill.result w.put_fill.ensures, h)
-
--- LEFT: add_cycles : tie.Need-overflow-add-cycles invariant-loop decreases-loop
--- add_cycles c =
---     let w = c.before.before.before.before in
---     let i = w.before.before in
---     let l = i.before.loop in
---     let p = i.before.before.before.before.requires in
---     let a = i.before.before.before.before.args in
---     let h : l.at + length (joined (fills_of a.rows l.rest.now)) ≤ length l.list = omega (arith, l.invariant.0, l.invariant.2, p.3) in
---     omega (arith, put_count a.rows p.0 p.1 l.rest.now i.loop-test.true l.invariant.1 l.list w.put_fill.new.1.1.0 l.at h w.put_fill.result w.put_fill.ensures l.cycles, l.invariant.3, count_within (plans (fills_of a.rows a.rectangles.now)), p.3)
-
--- LEFT: sub_rest : tie.Need-overflow-sub-rest invariant-loop decreases-loop
--- sub_rest c =
---     let i = c.before.before.before.before.before.before in
---     let l = i.before.loop in
---     let p = i.before.before.before.before.requires in
---     put_fits _ p.0 p.1 l.rest.now i.loop-test.true l.invariant.1
-
--- LEFT: part_rest_start : tie.Need-slice-bounds-rest-start invariant-loop decreases-loop
--- part_rest_start c =
---     let i = c.before.before.before.before.before.before in
---     let l = i.before.loop in
---     let p = i.before.before.before.before.requires in
---     omega (arith, put_fits _ p.0 p.1 l.rest.now i.loop-test.true l.invariant.1)

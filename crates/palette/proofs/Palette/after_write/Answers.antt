@@ -16,8 +16,8 @@ returns-in-1 c =
     let w = c in
     let k = w.in-1.is in
     record {
-  state = rw k w.coloured.ensures.0;
-  entry = rw k w.coloured.ensures.1;
+  state = rw k w.coloured.ensures.state;
+  entry = rw k w.coloured.ensures.entry;
 }
 
 pub returns-in-2 : goal.returns-in-2

@@ -10,8 +10,8 @@ returns-then-self-eq2 c =
     let k = eq-eqb _ _ b.if-self-eq2.true in
     let e = rw m.with_register.ensures at m.moved-state.ensures in
     record {
-  state = rw k (rw e at w.entered.ensures.0);
-  entry = rw k (rw e at w.entered.ensures.1);
+  state = rw k (rw e at w.entered.ensures.state);
+  entry = rw k (rw e at w.entered.ensures.entry);
 }
 
 pub returns : goal.returns

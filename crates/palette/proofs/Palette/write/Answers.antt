@@ -7,14 +7,14 @@ pub returns-then-n-ne-DONE : goal.returns-then-n-ne-DONE
 returns-then-n-ne-DONE c =
     let d = c in
     let a = d.args in
-    write_refused a.self a.table-1.now a.select a.value _ d.access_refusal-n.ensures c.if-n-ne-DONE.true
+    write_refused a.self a.table.now a.select a.value _ d.access_refusal-n.ensures c.if-n-ne-DONE.true
 
 pub after_write-state-requires : goal.after_write-state-requires
 after_write-state-requires c =
     let i = c in
     let d = i in
     let a = d.args in
-    (access_zero 3 a.self (length a.table-1.now) a.select (sym d.access_refusal-n.ensures ∙ i.if-n-ne-DONE.false)).table
+    (access_zero 3 a.self (length a.table.now) a.select (sym d.access_refusal-n.ensures ∙ i.if-n-ne-DONE.false)).table
 
 pub returns : goal.returns
 returns c =
@@ -22,5 +22,5 @@ returns c =
     let i = w in
     let d = i in
     let a = d.args in
-    write_done a.self a.table-1.now a.select a.value d.access_refusal-n.result d.access_refusal-n.ensures
-    i.if-n-ne-DONE.false w.after_write-state.ensures.0 w.after_write-state.ensures.1
+    write_done a.self a.table.now a.select a.value d.access_refusal-n.result d.access_refusal-n.ensures
+    i.if-n-ne-DONE.false w.after_write-state.ensures.state w.after_write-state.ensures.entry

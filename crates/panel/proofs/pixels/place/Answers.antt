@@ -11,8 +11,8 @@ returns c =
     let m = c.args.mask in
     (ap (λ (x : ℕ). 3 * bit_and x m) c.pixel-byte.ensures.0, omega (arith, and_le_l c.pixel-byte.result m, c.pixel-byte.ensures.1))
 
--- LEFT: cast_result : tie.Need-overflow-cast-result
--- cast_result c = omega (arith, and_le_l c.pixel.result c.before.args.mask, c.pixel.ensures.1)
+pub overflow_cast-result : goal.overflow_cast-result
+overflow_cast-result c = omega (arith, and_le_l c.pixel-byte.result c.args.mask, c.pixel-byte.ensures.1)
 
--- LEFT: mul_result : tie.Need-overflow-mul-result
--- mul_result c = omega (arith, and_le_l c.pixel.result c.before.args.mask, c.pixel.ensures.1)
+pub overflow_mul-result : goal.overflow_mul-result
+overflow_mul-result c = omega (arith, and_le_l c.pixel-byte.result c.args.mask, c.pixel-byte.ensures.1)

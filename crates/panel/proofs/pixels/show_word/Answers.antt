@@ -10,6 +10,9 @@ use Rattle.panel.proofs.Two.{two_back}
 use borrow.Author.Rules.{rules}
 use Rattle.panel.proofs.pixels.show_word.Goals as goal
 
+pub overflow_cast-out-2 : goal.overflow_cast-out-2
+overflow_cast-out-2 c = omega arith
+
 pub bounds-out-i-2 : goal.bounds-out-i-2
 bounds-out-i-2 c = simp length-set (omega arith)
 
@@ -26,6 +29,3 @@ returns c =
     let rg = two_back _ _ _ d.two_parts-red_green.ensures (small at) in
     let b = two_back _ _ _ c.two_parts-blue.ensures (small (at + 2)) in
     three_stores (panel_of (part_at a.width) a.mask a.table.now) a.out.now a.word a.i at _ _ _ g.place-at.ensures.0 rg.0 rg.1 b.0
-
--- LEFT: cast_out_2 : tie.Need-overflow-cast-out-2
--- cast_out_2 c = omega arith

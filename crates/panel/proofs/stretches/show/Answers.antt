@@ -12,7 +12,7 @@ use Rattle.panel.proofs.stretches.show.Goals as goal
 pub loop-done-init : goal.loop-done-init
 loop-done-init c =
     let a = c.args in
-    (omega arith, over_none (panel_of (part_at a.width) a.mask a.table.now) a.state a.serial.now a.out-1.now)
+    (omega arith, over_none (panel_of (part_at a.width) a.mask a.table.now) a.state a.serial.now a.out.now)
 
 pub stretch-done-requires : goal.stretch-done-requires
 stretch-done-requires c =

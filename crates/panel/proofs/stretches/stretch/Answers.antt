@@ -24,6 +24,16 @@ there s done clocks r f h z =
     let e : r.state ≡ moved done s = ap (λ (x : Moved). x.state) f ∙ clocks_moves s done k in
     (e, ap (λ (x : Moved). x.through) f ∙ clocks_leads s done k ∙ ap through (sym e))
 
+pub slice_bounds-show_words-end : goal.slice_bounds-show_words-end
+slice_bounds-show_words-end c =
+    let m = c in
+    let d = m in
+    let s = d in
+    let a = s.args in
+    let t = there a.state a.done a.clocks-here d.clocks-here.result d.clocks-here.ensures s.requires.4 s.requires.0 in
+    let q = through_within d.clocks-here.result.state (omega (arith, c.struct_known.given)) in
+    omega (arith, m.least-count.ensures, t.1, q.1, s.requires.1)
+
 pub returns : goal.returns
 returns c =
     let w = c in
@@ -34,22 +44,12 @@ returns c =
     let a = s.args in
     let here = d.clocks-here.result.state in
     let t = there a.state a.done a.clocks-here d.clocks-here.result d.clocks-here.ensures s.requires.4 s.requires.0 in
-    let p : here.pointer < 256 = omega (arith, k.struct_known-1.given) in
+    let p : here.pointer < 256 = omega (arith, k.struct_known.given) in
     let q = through_within here p in (
       omega (arith, m.least-count.ensures, t.1, q.0),
       omega (arith, m.least-count.ensures),
-      one_stretch (panel_of (part_at a.width) a.mask a.table.now) a.serial.now a.out-1.now _ here (3 * a.done) m.least-count.result p
+      one_stretch (panel_of (part_at a.width) a.mask a.table.now) a.serial.now a.out.now _ here (3 * a.done) m.least-count.result p
           (omega (arith, m.least-count.ensures, t.1)) (omega (arith, m.least-count.ensures, t.1, q.1, s.requires.1)) (a.done + m.least-count.result - a.done) (omega arith)
           (omega (arith, s.requires.3)) w.show_words.ensures
-          ∙ ap (λ (x : Vram). take (3 * a.done) a.out-1.now ++ over (bytes_of (panel_of (part_at a.width) a.mask a.table.now) (clocked_words (a.done + m.least-count.result - a.done) x a.serial.now)) (drop (3 * a.done) a.out-1.now)) t.0,
+          ∙ ap (λ (x : Vram). take (3 * a.done) a.out.now ++ over (bytes_of (panel_of (part_at a.width) a.mask a.table.now) (clocked_words (a.done + m.least-count.result - a.done) x a.serial.now)) (drop (3 * a.done) a.out.now)) t.0,
     )
-
--- LEFT: part_show_words_end : tie.Need-slice-bounds-show-words-end
--- part_show_words_end c =
---     let m = c.before in
---     let d = m.before in
---     let s = d.before.before.before.before in
---     let a = s.args in
---     let t = there a.state a.done a.clocks d.clocks.result d.clocks.ensures s.requires.4 s.requires.0 in
---     let q = through_within d.clocks.result.state (omega (arith, c.struct_known.given)) in
---     omega (arith, m.least.ensures, t.1, q.1, s.requires.1)

@@ -9,16 +9,16 @@ pub returns-in-WordWrite : goal.returns-in-WordWrite
 returns-in-WordWrite c =
     let w = c in
     let k = w in
-    rw k.cycle-1.given.1 (word_step _ _ _ _ _ _ _ _ _ _ w.word_write.ensures)
+    rw k.known_told-1.is (word_step _ _ _ _ _ _ _ _ _ _ w.word_write.ensures)
 
 pub returns-in-BlockWrite : goal.returns-in-BlockWrite
 returns-in-BlockWrite c =
     let w = c in
     let k = w in
-    rw k.cycle-in-BlockWrite-1.given.1 (block_step _ _ _ _ _ _ _ _ _ _ w.block_write.ensures)
+    rw k.known_told-in-BlockWrite-1.is (block_step _ _ _ _ _ _ _ _ _ _ w.block_write.ensures)
 
 pub returns-in_default : goal.returns-in_default
 returns-in_default c =
     let k = c in
     let a = k.args in
-    other_step a.cycle-1 (board a.state a.memory-1.now a.serial-1.now) (outcome k.cycle-answer.result k.cycle-answer.new.1.0 k.cycle-answer.new.1.1.0) k.cycle-answer.ensures
+    other_step a.cycle (board a.state a.memory.now a.serial.now) (outcome k.cycle-answer.result k.cycle-answer.new.1.0 k.cycle-answer.new.1.1.0) k.cycle-answer.ensures

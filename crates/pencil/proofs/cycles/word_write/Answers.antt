@@ -17,8 +17,8 @@ pub write_word-requires : goal.write_word-requires
 write_word-requires c =
     let e = c in
     let a = e.args in
-    word_within (length a.memory-1.now) a.row a.column
-    (write_placed e.write_number-n.result a.state (length a.memory-1.now) a.serial-words a.row a.column a.masking
+    word_within (length a.memory.now) a.row a.column
+    (write_placed e.write_number-n.result a.state (length a.memory.now) a.serial-words a.row a.column a.masking
     a.mask a.strobes e.write_number-n.ensures e.if-n-ne-DONE.false)
 
 pub returns : goal.returns
@@ -28,4 +28,4 @@ returns c =
     let e = f in
     let a = e.args in
     done_is (λ _ (m : List ℕ). m) _ _ _ _ _ e.write_number-n.ensures e.if-n-ne-DONE.false
-    (w.write_word.ensures ∙ ap (λ (n : ℕ). word_written a.memory-1.now (512 * a.row + a.column) a.word n a.strobes) f.in_force.ensures)
+    (w.write_word.ensures ∙ ap (λ (n : ℕ). word_written a.memory.now (512 * a.row + a.column) a.word n a.strobes) f.in_force.ensures)

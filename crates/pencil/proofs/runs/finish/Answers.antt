@@ -8,11 +8,11 @@ use Rattle.pencil.proofs.runs.finish.Goals as goal
 pub returns-then-bad-ne-DONE : goal.returns-then-bad-ne-DONE
 returns-then-bad-ne-DONE c =
     let a = c.args in
-    refused_out pencil a.list.now (board a.state a.memory-1.now a.serial-1.now) a.bad c.if-bad-ne-DONE.true
+    refused_out pencil a.list.now (board a.state a.memory.now a.serial.now) a.bad c.if-bad-ne-DONE.true
 
 pub returns : goal.returns
 returns c =
     let r = c in
     let e = r in
     let a = e.args in
-    done_out pencil a.list.now (board a.state a.memory-1.now a.serial-1.now) a.bad e.if-bad-ne-DONE.false _ r.run_fields-after.ensures
+    done_out pencil a.list.now (board a.state a.memory.now a.serial.now) a.bad e.if-bad-ne-DONE.false _ r.run_fields-after.ensures

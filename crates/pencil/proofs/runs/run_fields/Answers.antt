@@ -12,11 +12,23 @@ use Rattle.pencil.proofs.runs.run_fields.Goals as goal
 pub loop-cycle-init : goal.loop-cycle-init
 loop-cycle-init c = (refl, refl, refl)
 
+pub slice_bounds-rest-count : goal.slice_bounds-rest-count
+slice_bounds-rest-count c =
+    let h = c in
+    let o = h in
+    (field_fits o.loop-cycle.rest.now o.head_of-head.result o.head_of-head.ensures h.head.given.0.0 h.head.given.0.1.0 h.known_told-1.is).1
+
+pub slice_bounds-rest-start : goal.slice_bounds-rest-start
+slice_bounds-rest-start c =
+    let h = c in
+    let o = h in
+    (field_fits o.loop-cycle.rest.now o.head_of-head.result o.head_of-head.ensures h.head.given.0.0 h.head.given.0.1.0 h.known_told-1.is).1
+
 pub loop-cycle-smaller : goal.loop-cycle-smaller
 loop-cycle-smaller c =
     let h = c in
     let o = h in
-    rest_less o.loop-cycle.rest.now o.head_of-head.result o.head_of-head.ensures h.head-1.given.0.0 h.head-1.given.0.1.0 h.head-1.given.1
+    rest_less o.loop-cycle.rest.now o.head_of-head.result o.head_of-head.ensures h.head.given.0.0 h.head.given.0.1.0 h.known_told-1.is
 
 pub loop-cycle-preserved : goal.loop-cycle-preserved
 loop-cycle-preserved c =
@@ -26,7 +38,7 @@ loop-cycle-preserved c =
     let l = o.loop-cycle in (
       k.step-current.auto.1.0 ∙ l.invariant.0,
       k.step-current.auto.1.1.0 ∙ l.invariant.1,
-      turn_run l.rest-1.now o.head_of-head.result o.head_of-head.ensures h.head-1.given.0.0 h.head-1.given.0.1.0 h.head-1.given.1 _ _ k.step-current.ensures
+      turn_run l.rest.now o.head_of-head.result o.head_of-head.ensures h.head.given.0.0 h.head.given.0.1.0 h.known_told-1.is _ _ k.step-current.ensures
           ∙ l.invariant.2,
     )
 
@@ -40,7 +52,7 @@ pub returns-in-Waits : goal.returns-in-Waits
 returns-in-Waits c =
     let o = c in
     let l = o.loop-cycle in
-    over_waits l.rest-1.now o.head_of-head.result o.head_of-head.ensures c.in-Waits.is _ ∙ l.invariant.2
+    over_waits l.rest.now o.head_of-head.result o.head_of-head.ensures c.enum_told-1.is _ ∙ l.invariant.2
 
 pub shape_of-memory-in-Wrong : goal.shape_of-memory-in-Wrong
 shape_of-memory-in-Wrong c = c.loop-cycle.invariant.0
@@ -52,16 +64,4 @@ pub returns-in-Wrong : goal.returns-in-Wrong
 returns-in-Wrong c =
     let o = c in
     let l = o.loop-cycle in
-    over_wrong l.rest-1.now o.head_of-head.result o.head_of-head.ensures c.in-Wrong.is _ ∙ l.invariant.2
-
--- LEFT: sub_rest : tie.Need-overflow-sub-rest invariant-loop decreases-loop
--- sub_rest c =
---     let h = c.before.before.before.before.before.before.before.before in
---     let o = h.before.before in
---     (field_fits o.before.loop.rest.now o.head_of.result o.head_of.ensures h.head.given.0.0 h.head.given.0.1.0 h.head.given.1).1
-
--- LEFT: part_rest_start : tie.Need-slice-bounds-rest-start invariant-loop decreases-loop
--- part_rest_start c =
---     let h = c.before.before.before.before.before.before.before.before in
---     let o = h.before.before in
---     (field_fits o.before.loop.rest.now o.head_of.result o.head_of.ensures h.head.given.0.0 h.head.given.0.1.0 h.head.given.1).1
+    over_wrong l.rest.now o.head_of-head.result o.head_of-head.ensures c.enum_told-in-Wrong-1.is _ ∙ l.invariant.2

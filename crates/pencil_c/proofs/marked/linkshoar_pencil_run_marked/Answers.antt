@@ -11,10 +11,10 @@ returns-then-lawful c =
     let t = r in
     let l = t in
     let a = l.args in
-    marked_done pencil a.state a.memory-1.now a.serial-1.now a.marks-1.now a.list.now (sym l.lawful.ensures ∙ t.if-lawful.true) t.take.result t.take.ensures
+    marked_done pencil a.state a.memory.now a.serial.now a.marks.now a.list.now (sym l.lawful.ensures ∙ t.if-lawful.true) t.take.result t.take.ensures
     r.run_marked-ran.result r.run_marked-ran.new.1.0 r.run_marked-ran.new.1.1.0 r.run_marked-ran.new.1.1.1.0 r.run_marked-ran.ensures c.hand_ran.result c.hand_ran.ensures
 
 pub returns : goal.returns
 returns c =
     let a = c.args in
-    marked_excluded pencil a.state a.memory-1.now a.serial-1.now a.marks-1.now a.list.now (sym c.lawful.ensures ∙ c.if-lawful.false)
+    marked_excluded pencil a.state a.memory.now a.serial.now a.marks.now a.list.now (sym c.lawful.ensures ∙ c.if-lawful.false)

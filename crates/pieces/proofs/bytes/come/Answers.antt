@@ -14,14 +14,14 @@ returns-then-f c =
     let m = c.meet_held-f.ensures in
     come_holds _ _ _ _ _ c.requires.0 _ _ _ _ m.1 (sym m.0 ∙ c.if-f.true)
 
+pub overflow_add-start : goal.overflow_add-start
+unfolding limit
+overflow_add-start c =
+    let m = c.meet_held-f.ensures in
+    let k = c.requires.0 in
+    omega (arith, m.1.inside, k.size, k.fits)
+
 pub returns : goal.returns
 returns c =
     let m = c.meet_held-f.ensures in
     come_moves _ _ _ _ _ c.requires.0 _ _ _ _ m.1 (sym m.0 ∙ c.if-f.false) _ c.standing-pieces.ensures
-
--- LEFT: add_standing : tie.Need-overflow-add-standing
--- unfolding limit
--- add_standing c =
---     let m = c.before.before.before.before.before.before.before.meet-held.ensures in
---     let k = c.before.before.before.before.before.before.before.before.before.before.before.before.before.requires.0 in
---     omega (arith, m.1.inside, k.size, k.fits)

@@ -15,6 +15,9 @@ returns-then-start-count c = fed_over _ c.requires.0 _ _ c.if-p-ne-DONE.false (o
 pub bounds-held-i : goal.bounds-held-i
 bounds-held-i c = fed_few _ c.requires.0 c.if-p-ne-DONE.false
 
+pub overflow_add-count : goal.overflow_add-count
+overflow_add-count c = omega (arith, fed_few _ c.requires.0 c.if-p-ne-DONE.false)
+
 pub come-requires : goal.come-requires
 unfolding limit
 come-requires c = (fed_held _ c.requires.0 c.if-p-ne-DONE.false _ (omega (arith, c.if-start-count.false)), c.requires.1)
@@ -22,6 +25,3 @@ come-requires c = (fed_held _ c.requires.0 c.if-p-ne-DONE.false _ (omega (arith,
 pub returns : goal.returns
 unfolding limit
 returns c = fed_come _ c.requires.0 _ _ c.if-p-ne-DONE.false (omega (arith, c.if-start-count.false)) _ _ c.come.ensures
-
--- LEFT: add_come : tie.Need-overflow-add-come
--- add_come c = omega (arith, fed_few _ c.before.before.before.before.before.before.requires.0 c.before.before.if1.false)

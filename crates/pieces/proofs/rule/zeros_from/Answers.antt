@@ -18,6 +18,9 @@ returns-then-s-i-ne0 c =
     let l = c.loop-i in
     (sym (zero_bad _ l.i c.loop-i-test.true c.if-s-i-ne0.true) ∙ l.invariant.0, l.invariant.1)
 
+pub overflow_add-i : goal.overflow_add-i
+overflow_add-i c = omega arith
+
 pub loop-i-smaller : goal.loop-i-smaller
 loop-i-smaller c = omega arith
 
@@ -30,6 +33,3 @@ pub returns : goal.returns
 returns c =
     let l = c.loop-i in
     (sym (zero_end _ l.i c.loop-i-test.false) ∙ l.invariant.0, l.invariant.1)
-
--- LEFT: add_i : tie.Need-overflow-add-i invariant-loop decreases-loop
--- add_i c = omega arith

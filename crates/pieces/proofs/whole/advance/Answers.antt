@@ -16,9 +16,9 @@ returns-then-rest-used c = (c.at_once-f.ensures, omega (arith, c.requires.2, c.i
 pub feed-m-requires : goal.feed-m-requires
 feed-m-requires c = let a = c.at_once-f.ensures in (a.sound, a.given)
 
+pub overflow_add-result : goal.overflow_add-result
+overflow_add-result c = omega (arith, c.if-rest-used.false, c.well-formed)
+
 pub returns : goal.returns
 returns c =
     (along_byte _ _ _ _ _ _ c.at_once-f.ensures c.if-rest-used.false _ _ c.feed-m.ensures, omega arith)
-
--- LEFT: add_t20 : tie.Need-overflow-add-t20
--- add_t20 c = omega (arith, c.before.before.before.before.before.before.before.before.before.before.if2.false, c.before.before.before.before.before.before.before.before.before.before.before.before.before.before.before.before.before.before.before.before.before.before.before.before.before.well-formed)

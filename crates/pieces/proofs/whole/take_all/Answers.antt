@@ -13,11 +13,24 @@ use Rattle.pieces.proofs.whole.take_all.Goals as goal
 pub loop-used-init : goal.loop-used-init
 loop-used-init c = let p = c.requires in (refl, refl, along_none _ _ _ p.0 p.1)
 
+pub slice_bounds-advance-count : goal.slice_bounds-advance-count
+slice_bounds-advance-count c = c.loop-used.invariant.2.inside
+
+pub slice_bounds-advance-start : goal.slice_bounds-advance-start
+slice_bounds-advance-start c = c.loop-used.invariant.2.inside
+
 pub advance-f-requires : goal.advance-f-requires
 advance-f-requires c =
     let l = c.loop-used in
     let a = l.invariant.2 in
     (a.sound, a.given, rw (tail_part _ l.used, length-drop) (omega (arith, c.loop-used-test.true)))
+
+pub overflow_add-used : goal.overflow_add-used
+overflow_add-used c =
+    let l = c.loop-used in
+    let t = c.args.bytes.now in
+    let o = along_on _ _ t _ _ l.used l.invariant.2 _ (tail_part t l.used) _ _ _ c.advance-f.ensures.0 in
+    omega (arith, o.inside, c.well-formed)
 
 pub loop-used-smaller : goal.loop-used-smaller
 loop-used-smaller c =
@@ -45,16 +58,3 @@ shape_of-serial c = c.loop-used.invariant.1
 
 pub returns : goal.returns
 returns c = let l = c.loop-used in along_end _ _ _ _ _ l.used l.invariant.2 c.loop-used-test.false
-
--- LEFT: sub_advance : tie.Need-overflow-sub-advance invariant-loop decreases-loop
--- sub_advance c = c.before.before.before.loop.invariant.2.inside
-
--- LEFT: part_advance_start : tie.Need-slice-bounds-advance-start invariant-loop decreases-loop
--- part_advance_start c = c.before.before.before.loop.invariant.2.inside
-
--- LEFT: add_used : tie.Need-overflow-add-used invariant-loop decreases-loop
--- add_used c =
---     let l = c.before.before.before.before.before.before.before.before.before.before.before.before.loop in
---     let t = c.before.before.before.before.before.before.before.before.before.before.before.before.before.before.before.before.args.bytes.now in
---     let o = along_on _ _ t _ _ l.used l.invariant.2 _ (tail_part t l.used) _ _ _ c.before.before.before.before.before.before.before.advance.ensures.0 in
---     omega (arith, o.inside, c.before.before.before.before.before.before.before.before.before.before.before.before.before.before.before.before.well-formed)

@@ -29,7 +29,13 @@ returns-then-at-gt-SAFE c =
     let l = c.loop-at in
     let e = c.reached.ensures in
     come_along _ _ _ (line [] l.at 0 l.opened) _ _ _ _ l.used l.invariant.3 l.invariant.4 l.invariant.2 l.invariant.5 e.0
-    (ap (λ (s : Vram). board s l.memory-1 l.serial-1) e.1) e.2
+    (ap (λ (s : Vram). board s l.memory l.serial) e.1) e.2
+
+pub slice_bounds-meet-count : goal.slice_bounds-meet-count
+slice_bounds-meet-count c = c.loop-at.invariant.2
+
+pub slice_bounds-meet-start : goal.slice_bounds-meet-start
+slice_bounds-meet-start c = c.loop-at.invariant.2
 
 pub meet-f-requires : goal.meet-f-requires
 meet-f-requires c = c.loop-at.invariant.4
@@ -54,6 +60,19 @@ returns-then-f c =
     m.1.given l.invariant.2
     (stay_same t l.used _ part l.invariant.2 l.at l.opened _ l.invariant.3 _ _ _ _ m.1 w ∙ l.invariant.5)
     e.0 (ap (λ (s : Vram). board s f.new.1.1.1.0 f.new.1.1.1.1.0) e.1) e.2
+
+pub overflow_cast-at : goal.overflow_cast-at
+overflow_cast-at c = omega (arith, c.meet-f.ensures.1.most)
+
+pub overflow_add-at : goal.overflow_add-at
+overflow_add-at c = omega (arith, c.meet-f.ensures.1.most, c.if-at-gt-SAFE.false)
+
+pub overflow_add-used : goal.overflow_add-used
+overflow_add-used c =
+    let l = c.loop-at in
+    let t = c.args.bytes.now in
+    omega
+    (arith, turn_inside t l.used _ (tail_part t l.used) l.invariant.2 l.at l.opened _ l.invariant.3 _ _ _ _ c.meet-f.ensures.1, c.well-formed)
 
 pub shape_of-memory-then-f-ne-DONE : goal.shape_of-memory-then-f-ne-DONE
 shape_of-memory-then-f-ne-DONE c = c.meet-f.auto.1.1.1.0 ∙ c.loop-at.invariant.0
@@ -108,22 +127,3 @@ loop-at-preserved c =
       m.1.given,
       o.1 ∙ l.invariant.5,
     )
-
--- LEFT: sub_meet : tie.Need-overflow-sub-meet invariant-loop decreases-loop
--- sub_meet c = c.before.before.before.loop.invariant.2
-
--- LEFT: part_meet_start : tie.Need-slice-bounds-meet-start invariant-loop decreases-loop
--- part_meet_start c = c.before.before.before.loop.invariant.2
-
--- LEFT: cast_at : tie.Need-overflow-cast-at invariant-loop decreases-loop
--- cast_at c = omega (arith, c.before.before.before.before.before.before.before.meet.ensures.1.most)
-
--- LEFT: add_at : tie.Need-overflow-add-at invariant-loop decreases-loop
--- add_at c = omega (arith, c.before.before.before.before.before.before.before.meet.ensures.1.most, c.before.before.before.before.before.before.before.before.before.before.before.if1.false)
-
--- LEFT: add_used : tie.Need-overflow-add-used invariant-loop decreases-loop
--- add_used c =
---     let l = c.before.before.before.before.before.before.before.before.before.before.before.before.before.loop in
---     let t = c.before.before.before.before.before.before.before.before.before.before.before.before.before.before.before.before.before.args.bytes.now in
---     omega
---     (arith, turn_inside t l.used _ (tail_part t l.used) l.invariant.2 l.at l.opened _ l.invariant.3 _ _ _ _ c.before.before.before.before.before.before.before.before.meet.ensures.1, c.before.before.before.before.before.before.before.before.before.before.before.before.before.before.before.before.before.well-formed)

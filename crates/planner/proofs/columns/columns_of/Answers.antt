@@ -4,6 +4,24 @@ use native.Mathlib.Omega.{arith}
 use Rattle.planner.specs.ColumnLaws.{columns_is}
 use Rattle.planner.proofs.columns.columns_of.Goals as goal
 
+pub overflow_mul-b : goal.overflow_mul-b
+overflow_mul-b c = omega arith
+
+pub overflow_add-a : goal.overflow_add-a
+overflow_add-a c = omega arith
+
+pub overflow_mul-c : goal.overflow_mul-c
+overflow_mul-c c = omega arith
+
+pub overflow_add-a-2 : goal.overflow_add-a-2
+overflow_add-a-2 c = omega arith
+
+pub overflow_mul-d : goal.overflow_mul-d
+overflow_mul-d c = omega arith
+
+pub overflow_add-a-3 : goal.overflow_add-a-3
+overflow_add-a-3 c = omega arith
+
 pub all_quads-requires : goal.all_quads-requires
 all_quads-requires c = omega arith
 
@@ -11,24 +29,6 @@ pub returns : goal.returns
 returns c =
     let d = c in
     let a = d.args in
-    columns_is a.first-column a.end-column a.block _ _ _ _ _
+    columns_is a.first_column a.end_column a.block _ _ _ _ _
     d.covered-a.ensures.0 d.covered-b.ensures.0 d.covered-c.ensures.0 d.covered-d.ensures.0
     c.all_quads.ensures
-
--- LEFT: mul_all_quads : tie.Need-overflow-mul-all-quads
--- mul_all_quads c = omega arith
-
--- LEFT: add_all_quads : tie.Need-overflow-add-all-quads
--- add_all_quads c = omega arith
-
--- LEFT: mul_all_quads_2 : tie.Need-overflow-mul-all-quads-2
--- mul_all_quads_2 c = omega arith
-
--- LEFT: add_all_quads_2 : tie.Need-overflow-add-all-quads-2
--- add_all_quads_2 c = omega arith
-
--- LEFT: mul_all_quads_3 : tie.Need-overflow-mul-all-quads-3
--- mul_all_quads_3 c = omega arith
-
--- LEFT: add_all_quads_3 : tie.Need-overflow-add-all-quads-3
--- add_all_quads_3 c = omega arith

@@ -14,10 +14,10 @@ use Rattle.planner.proofs.lists.put_blocks.Goals as goal
 pub returns-then-list-bytes : goal.returns-then-list-bytes
 returns-then-list-bytes c =
     let a = c.args in
-    let f = columns_in a.first-column a.end-column a.block in
-    let g = columns_in a.first-column a.end-column (a.block + (a.n - 1)) in
+    let f = columns_in a.first_column a.end_column a.block in
+    let g = columns_in a.first_column a.end_column (a.block + (a.n - 1)) in
     let b = block_rows a.block f g a.mask a.n a.row a.height in
-    stored_short (load_bytes a.colour ++ b) (1 + a.height * a.n) a.list-1.now
+    stored_short (load_bytes a.colour ++ b) (1 + a.height * a.n) a.list.now
     (omega (arith, block_bytes_length a.block f g a.mask a.n a.row a.height, c.area-blocks.ensures.0))
 
 pub returns : goal.returns
@@ -28,13 +28,13 @@ returns c =
     let k = q in
     let e = k.area-blocks.ensures.0 in
     let a = k.args in
-    let f = columns_in a.first-column a.end-column a.block in
-    let g = columns_in a.first-column a.end-column (a.block + (a.n - 1)) in
+    let f = columns_in a.first_column a.end_column a.block in
+    let g = columns_in a.first_column a.end_column (a.block + (a.n - 1)) in
     let b = block_rows a.block f g a.mask a.n a.row a.height in
     let l = block_bytes_length a.block f g a.mask a.n a.row a.height in
-    stored_done (load_bytes a.colour ++ b) (1 + a.height * a.n) a.list-1.now _ _ _
+    stored_done (load_bytes a.colour ++ b) (1 + a.height * a.n) a.list.now _ _ _
     (omega (arith, l, e)) (ap (λ (x : ℕ). 1 + x) e) (omega (arith, l, e))
     (w.put_block_rows.ensures
     ∙ ap₂ (λ (x y : ℕ). sets d.put_load.new.0 6 (block_rows a.block x y a.mask a.n a.row a.height)) q.columns_of-first.ensures q.columns_of-last.ensures
     ∙ ap (λ (t : List ℕ). sets t 6 b) d.put_load.ensures
-    ∙ sets_append (load_bytes a.colour) b a.list-1.now 0)
+    ∙ sets_append (load_bytes a.colour) b a.list.now 0)

@@ -11,7 +11,7 @@ pub returns-then-list-bytes : goal.returns-then-list-bytes
 returns-then-list-bytes c =
     let a = c.args in
     let b = word_rows a.column a.width a.colour a.mask a.row a.height in
-    stored_short b (a.height * a.width) a.list-1.now
+    stored_short b (a.height * a.width) a.list.now
     (omega (arith, word_bytes_length a.column a.width a.colour a.mask a.row a.height, c.area-cycles.ensures.0))
 
 pub returns : goal.returns
@@ -21,5 +21,5 @@ returns c =
     let e = k.area-cycles.ensures.0 in
     let a = k.args in
     let l = word_bytes_length a.column a.width a.colour a.mask a.row a.height in
-    stored_done (word_rows a.column a.width a.colour a.mask a.row a.height) (a.height * a.width) a.list-1.now _ _ _
+    stored_done (word_rows a.column a.width a.colour a.mask a.row a.height) (a.height * a.width) a.list.now _ _ _
     (omega (arith, l, e)) e (omega (arith, l, e)) w.put_word_rows.ensures

@@ -15,7 +15,7 @@ returns-then-n-eq1 c =
     let q = w in
     let a = q.args in
     w.put_write.ensures
-    ∙ one_stored a.block a.first a.last a.mask a.n a.row q.place_of-place.result q.place_of-place.ensures.0 a.list-1.now a.at c.if-n-eq1.true
+    ∙ one_stored a.block a.first a.last a.mask a.n a.row q.place_of-place.result q.place_of-place.ensures.0 a.list.now a.at c.if-n-eq1.true
 
 pub returns : goal.returns
 returns c =
@@ -28,4 +28,4 @@ returns c =
     v.put_write-2.ensures
     ∙ ap (λ (l : List ℕ). sets l (a.at + 13 * (a.n - 1)) (write_at 2 (p + 4 * (a.n - 1)) a.last a.mask))
     (r.put_row.ensures ∙ ap (λ (l : List ℕ). sets l (a.at + 13) (row_bytes 2 (p + 4) 4 65535 a.mask (a.n - 2))) w.put_write.ensures)
-    ∙ more_stored a.block a.first a.last a.mask a.n a.row p q.place_of-place.ensures.0 a.list-1.now a.at (omega arith)
+    ∙ more_stored a.block a.first a.last a.mask a.n a.row p q.place_of-place.ensures.0 a.list.now a.at (omega arith)

@@ -14,7 +14,10 @@ use Rattle.planner.proofs.rows.put_block_rows.Goals as goal
 pub loop-i-init : goal.loop-i-init
 loop-i-init c =
     let a = c.args in
-    (omega arith, omega arith, refl, ap (sets a.list-1.now 6) (sym (block_rows_none a.block a.first a.last a.mask a.n a.row)))
+    (omega arith, omega arith, refl, ap (sets a.list.now 6) (sym (block_rows_none a.block a.first a.last a.mask a.n a.row)))
+
+pub overflow_add-row : goal.overflow_add-row
+overflow_add-row c = omega arith
 
 pub put_block_row-requires : goal.put_block_row-requires
 put_block_row-requires c =
@@ -22,6 +25,16 @@ put_block_row-requires c =
     let a = c.args in
     let t : k.i + 1 ≤ a.height = omega arith in
     omega (arith, mul-le-mul_right (13 * a.n) t)
+
+pub overflow_add-o : goal.overflow_add-o
+overflow_add-o c =
+    let k = c.loop-i in
+    let a = c.args in
+    let t : k.i + 1 ≤ a.height = omega arith in
+    omega (arith, mul-le-mul_right (13 * a.n) t)
+
+pub overflow_add-i : goal.overflow_add-i
+overflow_add-i c = omega arith
 
 pub loop-i-smaller : goal.loop-i-smaller
 loop-i-smaller c = omega arith
@@ -31,11 +44,11 @@ loop-i-preserved c =
     let w = c in
     let k = w.loop-i in
     let a = w.args in
-    let f : w.put_block_row.new.0 ≡ sets a.list-1.now 6 (block_rows a.block a.first a.last a.mask a.n a.row (k.i + 1)) =
+    let f : w.put_block_row.new.0 ≡ sets a.list.now 6 (block_rows a.block a.first a.last a.mask a.n a.row (k.i + 1)) =
     w.put_block_row.ensures
     ∙ ap₂ (λ (l : List ℕ) (o : ℕ). sets l o (block_row a.block a.first a.last a.mask a.n (a.row + k.i))) k.invariant.3 k.invariant.1
-    ∙ block_rows_more a.block a.first a.last a.mask a.n a.list-1.now a.row k.i in
-    (omega arith, omega arith, ap length f ∙ length-sets a.list-1.now 6 (block_rows a.block a.first a.last a.mask a.n a.row (k.i + 1)), f)
+    ∙ block_rows_more a.block a.first a.last a.mask a.n a.list.now a.row k.i in
+    (omega arith, omega arith, ap length f ∙ length-sets a.list.now 6 (block_rows a.block a.first a.last a.mask a.n a.row (k.i + 1)), f)
 
 pub shape_of-list : goal.shape_of-list
 shape_of-list c = c.loop-i.invariant.2
@@ -45,17 +58,4 @@ returns c =
     let k = c.loop-i in
     let a = c.args in
     let e : k.i ≡ a.height = omega arith in
-    k.invariant.3 ∙ ap (λ (i : ℕ). sets a.list-1.now 6 (block_rows a.block a.first a.last a.mask a.n a.row i)) e
-
--- LEFT: add_put_block_row : tie.Need-overflow-add-put-block-row invariant-loop decreases-loop
--- add_put_block_row c = omega arith
-
--- LEFT: add_o : tie.Need-overflow-add-o invariant-loop decreases-loop
--- add_o c =
---     let k = c.before.before.before.before.before.loop in
---     let a = c.before.before.before.before.before.before.before.args in
---     let t : k.i + 1 ≤ a.height = omega arith in
---     omega (arith, mul-le-mul_right (13 * a.n) t)
-
--- LEFT: add_i : tie.Need-overflow-add-i invariant-loop decreases-loop
--- add_i c = omega arith
+    k.invariant.3 ∙ ap (λ (i : ℕ). sets a.list.now 6 (block_rows a.block a.first a.last a.mask a.n a.row i)) e

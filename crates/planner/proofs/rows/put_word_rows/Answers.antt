@@ -14,7 +14,10 @@ use Rattle.planner.proofs.rows.put_word_rows.Goals as goal
 pub loop-i-init : goal.loop-i-init
 loop-i-init c =
     let a = c.args in
-    (omega arith, omega arith, refl, ap (sets a.list-1.now 0) (sym (word_rows_none a.column a.width a.colour a.mask a.row)))
+    (omega arith, omega arith, refl, ap (sets a.list.now 0) (sym (word_rows_none a.column a.width a.colour a.mask a.row)))
+
+pub overflow_add-row : goal.overflow_add-row
+overflow_add-row c = omega arith
 
 pub place_of-requires : goal.place_of-requires
 place_of-requires c = omega arith
@@ -26,6 +29,16 @@ put_row-requires c =
     let t : k.i + 1 ≤ a.height = omega arith in
     omega (arith, mul-le-mul_right (13 * a.width) t)
 
+pub overflow_add-o : goal.overflow_add-o
+overflow_add-o c =
+    let k = c.loop-i in
+    let a = c.args in
+    let t : k.i + 1 ≤ a.height = omega arith in
+    omega (arith, mul-le-mul_right (13 * a.width) t)
+
+pub overflow_add-i : goal.overflow_add-i
+overflow_add-i c = omega arith
+
 pub loop-i-smaller : goal.loop-i-smaller
 loop-i-smaller c = omega arith
 
@@ -34,12 +47,12 @@ loop-i-preserved c =
     let w = c in
     let k = w.loop-i in
     let a = w.args in
-    let f : w.put_row.new.0 ≡ sets a.list-1.now 0 (word_rows a.column a.width a.colour a.mask a.row (k.i + 1)) =
+    let f : w.put_row.new.0 ≡ sets a.list.now 0 (word_rows a.column a.width a.colour a.mask a.row (k.i + 1)) =
     w.put_row.ensures
     ∙ ap₂ (λ (l : List ℕ) (o : ℕ). sets l o (row_bytes 1 w.place_of.result 1 a.colour a.mask a.width)) k.invariant.3 k.invariant.1
-    ∙ ap (λ (p : ℕ). sets (sets a.list-1.now 0 (word_rows a.column a.width a.colour a.mask a.row k.i)) (k.i * (13 * a.width)) (row_bytes 1 p 1 a.colour a.mask a.width)) w.place_of.ensures.0
-    ∙ word_rows_more a.column a.width a.colour a.mask a.list-1.now a.row k.i in
-    (omega arith, omega arith, ap length f ∙ length-sets a.list-1.now 0 (word_rows a.column a.width a.colour a.mask a.row (k.i + 1)), f)
+    ∙ ap (λ (p : ℕ). sets (sets a.list.now 0 (word_rows a.column a.width a.colour a.mask a.row k.i)) (k.i * (13 * a.width)) (row_bytes 1 p 1 a.colour a.mask a.width)) w.place_of.ensures.0
+    ∙ word_rows_more a.column a.width a.colour a.mask a.list.now a.row k.i in
+    (omega arith, omega arith, ap length f ∙ length-sets a.list.now 0 (word_rows a.column a.width a.colour a.mask a.row (k.i + 1)), f)
 
 pub shape_of-list : goal.shape_of-list
 shape_of-list c = c.loop-i.invariant.2
@@ -49,17 +62,4 @@ returns c =
     let k = c.loop-i in
     let a = c.args in
     let e : k.i ≡ a.height = omega arith in
-    k.invariant.3 ∙ ap (λ (i : ℕ). sets a.list-1.now 0 (word_rows a.column a.width a.colour a.mask a.row i)) e
-
--- LEFT: add_place_of : tie.Need-overflow-add-place-of invariant-loop decreases-loop
--- add_place_of c = omega arith
-
--- LEFT: add_o : tie.Need-overflow-add-o invariant-loop decreases-loop
--- add_o c =
---     let k = c.before.before.before.before.before.before.loop in
---     let a = c.before.before.before.before.before.before.before.before.args in
---     let t : k.i + 1 ≤ a.height = omega arith in
---     omega (arith, mul-le-mul_right (13 * a.width) t)
-
--- LEFT: add_i : tie.Need-overflow-add-i invariant-loop decreases-loop
--- add_i c = omega arith
+    k.invariant.3 ∙ ap (λ (i : ℕ). sets a.list.now 0 (word_rows a.column a.width a.colour a.mask a.row i)) e

@@ -14,10 +14,19 @@ use Rattle.planner.proofs.writes.put_row.Goals as goal
 pub loop-i-init : goal.loop-i-init
 loop-i-init c =
     let a = c.args in
-    (omega arith, omega arith, omega arith, omega arith, refl, ap (sets a.list-1.now a.at) (sym (row_none a.tag a.first a.step a.value a.mask)))
+    (omega arith, omega arith, omega arith, omega arith, refl, ap (sets a.list.now a.at) (sym (row_none a.tag a.first a.step a.value a.mask)))
 
 pub put_write-requires : goal.put_write-requires
 put_write-requires c = omega arith
+
+pub overflow_add-o : goal.overflow_add-o
+overflow_add-o c = omega arith
+
+pub overflow_add-i : goal.overflow_add-i
+overflow_add-i c = omega arith
+
+pub overflow_add-place : goal.overflow_add-place
+overflow_add-place c = omega arith
 
 pub loop-i-smaller : goal.loop-i-smaller
 loop-i-smaller c = omega arith
@@ -28,12 +37,12 @@ loop-i-preserved c =
     let k = c.loop-i in
     let a = c.args in
     let e : a.step * (k.i + 1) ≡ a.step * k.i + a.step = mul-add a.step k.i 1 ∙ ap (λ (x : ℕ). a.step * k.i + x) (mul-one a.step) in
-    let f : w.new.0 ≡ sets a.list-1.now a.at (row_bytes a.tag a.first a.step a.value a.mask (k.i + 1)) =
+    let f : w.new.0 ≡ sets a.list.now a.at (row_bytes a.tag a.first a.step a.value a.mask (k.i + 1)) =
     w.ensures
     ∙ ap₂ (λ (l : List ℕ) (o : ℕ). sets l o (write_at a.tag k.place a.value a.mask)) k.invariant.5 k.invariant.1
-    ∙ ap (λ (p : ℕ). sets (sets a.list-1.now a.at (row_bytes a.tag a.first a.step a.value a.mask k.i)) (a.at + k.i * 13) (write_at a.tag p a.value a.mask)) k.invariant.3
-    ∙ row_more a.tag a.first a.step a.value a.mask a.list-1.now a.at k.i in
-    (omega arith, omega arith, omega arith, omega arith, ap length f ∙ length-sets a.list-1.now a.at (row_bytes a.tag a.first a.step a.value a.mask (k.i + 1)), f)
+    ∙ ap (λ (p : ℕ). sets (sets a.list.now a.at (row_bytes a.tag a.first a.step a.value a.mask k.i)) (a.at + k.i * 13) (write_at a.tag p a.value a.mask)) k.invariant.3
+    ∙ row_more a.tag a.first a.step a.value a.mask a.list.now a.at k.i in
+    (omega arith, omega arith, omega arith, omega arith, ap length f ∙ length-sets a.list.now a.at (row_bytes a.tag a.first a.step a.value a.mask (k.i + 1)), f)
 
 pub shape_of-list : goal.shape_of-list
 shape_of-list c = c.loop-i.invariant.4
@@ -43,13 +52,4 @@ returns c =
     let k = c.loop-i in
     let a = c.args in
     let e : k.i ≡ a.n = omega arith in
-    k.invariant.5 ∙ ap (λ (i : ℕ). sets a.list-1.now a.at (row_bytes a.tag a.first a.step a.value a.mask i)) e
-
--- LEFT: add_o : tie.Need-overflow-add-o invariant-loop decreases-loop
--- add_o c = omega arith
-
--- LEFT: add_i : tie.Need-overflow-add-i invariant-loop decreases-loop
--- add_i c = omega arith
-
--- LEFT: add_place : tie.Need-overflow-add-place invariant-loop decreases-loop
--- add_place c = omega arith
+    k.invariant.5 ∙ ap (λ (i : ℕ). sets a.list.now a.at (row_bytes a.tag a.first a.step a.value a.mask i)) e

@@ -16,4 +16,4 @@ returns c =
     let a = p.args in
     r.put_rest.ensures
     ∙ ap (λ (l : List ℕ). sets l (a.at + 7) (rest_bytes a.value a.mask)) (t.put_tag.ensures ∙ ap (λ (l : List ℕ). sets l a.at (tag_bytes a.tag)) p.put_place.ensures)
-    ∙ write_stored a.list-1.now a.at a.tag a.place a.value a.mask
+    ∙ write_stored a.list.now a.at a.tag a.place a.value a.mask

@@ -15,6 +15,12 @@ pub loop-i-init : goal.loop-i-init
 unfolding word_lines
 loop-i-init c = (omega arith, put_nothing _ _)
 
+pub overflow_cast-i : goal.overflow_cast-i
+overflow_cast-i c = let l = c in omega (arith, l.requires.0, c.loop-i-test.true)
+
+pub overflow_cast-memory : goal.overflow_cast-memory
+overflow_cast-memory c = let l = c in omega (arith, c.shared_slice_known-in-loop-i-1.given l.loop-i.i)
+
 pub put_word-end-requires : goal.put_word-end-requires
 put_word-end-requires c =
     let l = c in
@@ -40,9 +46,3 @@ returns c =
     let s = l in
     let e : take l.loop-i.i s.args.memory.now ≡ s.args.memory.now = take_all l.loop-i.i s.args.memory.now (omega (arith, c.loop-i-test.false)) in
     subst (λ (m : List ℕ). Put s.args.text.now s.args.at (word_lines 0 m) l.loop-i.text l.loop-i.end) e l.loop-i.invariant.1
-
--- LEFT: cast_put_word : tie.Need-overflow-cast-put-word invariant-loop decreases-loop
--- cast_put_word c = let l = c.before.before in omega (arith, l.before.before.before.requires.0, c.before.loop-test.true)
-
--- LEFT: cast_put_word_2 : tie.Need-overflow-cast-put-word-2 invariant-loop decreases-loop
--- cast_put_word_2 c = let l = c.before.before.before in omega (arith, c.shared-slice-known2.given l.loop.i)

@@ -32,7 +32,7 @@ write_block-requires c =
     omega (
       arith,
       p.place-base.ensures,
-      block_within (length a.memory-1.now) a.row a.column
+      block_within (length a.memory.now) a.row a.column
           (write_zero _ a.row a.column a.masking a.mask a.strobes (sym e.write_refusal-n.ensures ∙ e.if-n-ne-DONE-2.false)),
     )
 
@@ -45,6 +45,6 @@ returns c =
     let a = d.args in record {
   number = sym e.if-n-ne-DONE-2.false ∙ own_decides _ _ _ d.given-n.ensures d.if-n-ne-DONE.false e.write_refusal-n.ensures;
   leaves = w.write_block.ensures
-          ∙ ap (λ (i : ℕ). puts a.memory-1.now i a.self.colour (λ j b. lets a.columns j b && bit w.allowed.result b) 4) p.place-base.ensures
+          ∙ ap (λ (i : ℕ). puts a.memory.now i a.self.colour (λ j b. lets a.columns j b && bit w.allowed.result b) 4) p.place-base.ensures
           ∙ puts_by_mask _ _ _ a.columns _ (allowed a.self a.masking a.mask a.strobes) w.allowed.ensures 4;
 }

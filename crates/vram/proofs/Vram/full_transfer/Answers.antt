@@ -34,4 +34,4 @@ returns c =
     let a = d.args in
     transfer_done _ _ _ _ _ _ (own_decides _ _ _ d.given-n.ensures d.if-n-ne-DONE.false e.full_refusal-n.ensures) e.if-n-ne-DONE-2.false
     c.with_serial-state.ensures
-    (k.copy.ensures ∙ ap (λ (i : ℕ). copied a.memory.now i a.serial-1.now 0 256) p.place-from.ensures)
+    (k.copy.ensures ∙ ap (λ (i : ℕ). copied a.memory.now i a.serial.now 0 256) p.place-from.ensures)

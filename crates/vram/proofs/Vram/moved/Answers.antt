@@ -19,13 +19,13 @@ returns-in-None c =
     let a = d.args in
     c.with_serial-in-None.ensures
     ∙ ap (λ (x : ℕ). at a.self x None) d.advance-later.ensures.0
-    ∙ goes_round a.self a.count d.advance-later.ensures.1 c.enum_told-1.given.1
+    ∙ goes_round a.self a.count d.advance-later.ensures.1 c.enum_told-1.is
 
 pub returns-in-Tap : goal.returns-in-Tap
 returns-in-Tap c =
     let d = c in
     let a = d.args in
-    let w = c.waiting-1.given in
+    let w = c.waiting.given in
     c.with_serial-in-Tap.ensures
     ∙ ap (λ (x : ℕ). at a.self x None)
     (c.advance-past.ensures.0 ∙ ap (λ (x : ℕ). after w.0.0 (a.count - x)) d.through-through.ensures)

@@ -28,6 +28,14 @@ copy-requires c =
     let g = given_zero _ _ _ (sym d.given-n.ensures ∙ d.if-n-ne-DONE.false) in
     (omega (arith, p.place.ensures, w), omega (arith, g.register, h.other_half-first.ensures.1))
 
+pub overflow_add-first : goal.overflow_add-first
+overflow_add-first c =
+    let h = c in
+    let e = h in
+    let a = e.args in
+    let z = split_zero _ a.self.loaded a.row a.half a.tap (sym e.split_refusal-n.ensures ∙ e.if-n-ne-DONE-2.false) in
+    omega (arith, z.tap_within, h.other_half-first.ensures.1)
+
 pub returns : goal.returns
 returns c =
     let k = c in
@@ -38,12 +46,4 @@ returns c =
     let a = d.args in
     transfer_done _ _ _ _ _ _ (own_decides _ _ _ d.given-n.ensures d.if-n-ne-DONE.false e.split_refusal-n.ensures) e.if-n-ne-DONE-2.false
     (c.with_serial-state.ensures ∙ ap (λ (x : ℕ). with_serial a.self a.self.loaded a.self.pointer (Tap (x + a.tap))) h.other_half-first.ensures.0)
-    (k.copy.ensures ∙ ap₂ (λ (i x : ℕ). copied a.memory.now (i + x) a.serial-1.now x 128) p.place.ensures h.other_half-first.ensures.0)
-
--- LEFT: add_t22 : tie.Need-overflow-add-t22
--- add_t22 c =
---     let h = c.before.before.before.before.before in
---     let e = h.before in
---     let a = e.before.before.before.before.before.before.args in
---     let z = split_zero _ a.self.loaded a.row a.half a.tap (sym e.before.split_refusal.ensures ∙ e.if2.false) in
---     omega (arith, z.tap_within, h.other_half.ensures.1)
+    (k.copy.ensures ∙ ap₂ (λ (i x : ℕ). copied a.memory.now (i + x) a.serial.now x 128) p.place.ensures h.other_half-first.ensures.0)

@@ -31,7 +31,7 @@ write_word-requires c =
     omega (
       arith,
       p.place-at.ensures,
-      word_within (length a.memory-1.now) a.row a.column
+      word_within (length a.memory.now) a.row a.column
           (write_zero _ a.row a.column a.masking a.mask a.strobes (sym e.write_refusal-n.ensures ∙ e.if-n-ne-DONE-2.false)),
     )
 
@@ -44,6 +44,6 @@ returns c =
     let a = d.args in record {
   number = sym e.if-n-ne-DONE-2.false ∙ own_decides _ _ _ d.given-n.ensures d.if-n-ne-DONE.false e.write_refusal-n.ensures;
   leaves = w.write_word.ensures
-          ∙ ap (λ (i : ℕ). put a.memory-1.now i a.word (bit w.allowed.result)) p.place-at.ensures
+          ∙ ap (λ (i : ℕ). put a.memory.now i a.word (bit w.allowed.result)) p.place-at.ensures
           ∙ put_by_mask _ _ _ _ (allowed a.self a.masking a.mask a.strobes) w.allowed.ensures;
 }
