@@ -11,7 +11,7 @@ pub returns-in-None : goal.returns-in-None
 returns-in-None c =
     let n = c in
     let a = n.args in
-    next_handed a.marks.now a.start n.next-next.result n.next-next.ensures None c.enum_told-1.is (values 0 0 0) (sym values_none)
+    next_handed a.marks.now a.start n.next-next.result n.next-next.ensures None c.in-None.is (values 0 0 0) (sym values_none)
 
 pub returns-in-Row : goal.returns-in-Row
 returns-in-Row c =
@@ -19,4 +19,4 @@ returns-in-Row c =
     let n = f in
     let a = n.args in
     let r = f.found.given.0.0 in
-    next_handed a.marks.now a.start n.next-next.result n.next-next.ensures (Row r) f.known_told-1.is (values 0 1 r) (sym (values_row r))
+    next_handed a.marks.now a.start n.next-next.result n.next-next.ensures (Row r) f.in-Row.is (values 0 1 r) (sym (values_row r))

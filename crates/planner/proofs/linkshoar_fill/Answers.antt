@@ -15,7 +15,7 @@ overflow_sub-end_row c =
     let b = m in
     let a = b.args in
     let f = fill a.rows a.first_row a.end_row a.first_column a.end_column a.mask a.colour a.persistent in
-    let s = says_any a.rows a.first_row a.end_row a.first_column a.end_column a.mask a.colour a.persistent _ _ m.shape_of-shape.ensures c.enum_told-in-Blocks-1.is in
+    let s = says_any a.rows a.first_row a.end_row a.first_column a.end_column a.mask a.colour a.persistent _ _ m.shape_of-shape.ensures c.in-Blocks.is in
     (asked_sound f s.0).row-order
 
 pub across-requires : goal.across-requires
@@ -24,7 +24,7 @@ across-requires c =
     let b = m in
     let a = b.args in
     let f = fill a.rows a.first_row a.end_row a.first_column a.end_column a.mask a.colour a.persistent in
-    let s = says_any a.rows a.first_row a.end_row a.first_column a.end_column a.mask a.colour a.persistent _ _ m.shape_of-shape.ensures c.enum_told-in-Blocks-1.is in
+    let s = says_any a.rows a.first_row a.end_row a.first_column a.end_column a.mask a.colour a.persistent _ _ m.shape_of-shape.ensures c.in-Blocks.is in
     let o = asked_sound f s.0 in
     (o.column_order, o.column_end)
 
@@ -34,7 +34,7 @@ put_blocks-requires c =
     let b = m in
     let a = b.args in
     let f = fill a.rows a.first_row a.end_row a.first_column a.end_column a.mask a.colour a.persistent in
-    let s = says_any a.rows a.first_row a.end_row a.first_column a.end_column a.mask a.colour a.persistent _ _ m.shape_of-shape.ensures c.enum_told-in-Blocks-1.is in
+    let s = says_any a.rows a.first_row a.end_row a.first_column a.end_column a.mask a.colour a.persistent _ _ m.shape_of-shape.ensures c.in-Blocks.is in
     let o = asked_sound f s.0 in
     omega (arith, o.row_order, o.row_end, o.rows_most, o.column_end, some_columns f a.list.now s.0 s.1, c.across.ensures.0)
 
@@ -44,7 +44,7 @@ overflow_sub-end_row-in-Words c =
     let b = m in
     let a = b.args in
     let f = fill a.rows a.first_row a.end_row a.first_column a.end_column a.mask a.colour a.persistent in
-    let s = says_any a.rows a.first_row a.end_row a.first_column a.end_column a.mask a.colour a.persistent _ _ m.shape_of-shape.ensures c.enum_told-in-Words-1.is in
+    let s = says_any a.rows a.first_row a.end_row a.first_column a.end_column a.mask a.colour a.persistent _ _ m.shape_of-shape.ensures c.in-Words.is in
     (asked_sound f s.0).row-order
 
 pub overflow_sub-end_column : goal.overflow_sub-end_column
@@ -53,7 +53,7 @@ overflow_sub-end_column c =
     let b = m in
     let a = b.args in
     let f = fill a.rows a.first_row a.end_row a.first_column a.end_column a.mask a.colour a.persistent in
-    let s = says_any a.rows a.first_row a.end_row a.first_column a.end_column a.mask a.colour a.persistent _ _ m.shape_of-shape.ensures c.enum_told-in-Words-1.is in
+    let s = says_any a.rows a.first_row a.end_row a.first_column a.end_column a.mask a.colour a.persistent _ _ m.shape_of-shape.ensures c.in-Words.is in
     (asked_sound f s.0).column-order
 
 pub put_words-requires : goal.put_words-requires
@@ -62,7 +62,7 @@ put_words-requires c =
     let b = m in
     let a = b.args in
     let f = fill a.rows a.first_row a.end_row a.first_column a.end_column a.mask a.colour a.persistent in
-    let s = says_any a.rows a.first_row a.end_row a.first_column a.end_column a.mask a.colour a.persistent _ _ m.shape_of-shape.ensures c.enum_told-in-Words-1.is in
+    let s = says_any a.rows a.first_row a.end_row a.first_column a.end_column a.mask a.colour a.persistent _ _ m.shape_of-shape.ensures c.in-Words.is in
     let o = asked_sound f s.0 in
     omega (arith, o.row_order, o.row_end, o.rows_most, o.column_order, o.column_end)
 
@@ -72,7 +72,7 @@ returns-in-Refused c =
     let b = m in
     let a = b.args in
     let f = fill a.rows a.first_row a.end_row a.first_column a.end_column a.mask a.colour a.persistent in
-    let s = says_any a.rows a.first_row a.end_row a.first_column a.end_column a.mask a.colour a.persistent _ _ m.shape_of-shape.ensures c.known_told-1.is in
+    let s = says_any a.rows a.first_row a.end_row a.first_column a.end_column a.mask a.colour a.persistent _ _ m.shape_of-shape.ensures c.in-Refused.is in
     with_demand f a.list.now b.ranges.mask.fits b.ranges.colour.fits
     (fill_refuses f a.list.now _ s.0 s.1)
 
@@ -82,7 +82,7 @@ returns-in-Nothing c =
     let b = m in
     let a = b.args in
     let f = fill a.rows a.first_row a.end_row a.first_column a.end_column a.mask a.colour a.persistent in
-    let s = says_any a.rows a.first_row a.end_row a.first_column a.end_column a.mask a.colour a.persistent _ _ m.shape_of-shape.ensures c.enum_told-1.is in
+    let s = says_any a.rows a.first_row a.end_row a.first_column a.end_column a.mask a.colour a.persistent _ _ m.shape_of-shape.ensures c.in-Nothing.is in
     with_demand f a.list.now b.ranges.mask.fits b.ranges.colour.fits
     (fill_nothing f a.list.now s.0 s.1)
 
@@ -92,7 +92,7 @@ returns-in-Blocks c =
     let b = m in
     let a = b.args in
     let f = fill a.rows a.first_row a.end_row a.first_column a.end_column a.mask a.colour a.persistent in
-    let s = says_any a.rows a.first_row a.end_row a.first_column a.end_column a.mask a.colour a.persistent _ _ m.shape_of-shape.ensures c.enum_told-in-Blocks-1.is in
+    let s = says_any a.rows a.first_row a.end_row a.first_column a.end_column a.mask a.colour a.persistent _ _ m.shape_of-shape.ensures c.in-Blocks.is in
     with_demand f a.list.now b.ranges.mask.fits b.ranges.colour.fits
     (c.put_blocks.ensures ∙ fill_blocks f a.list.now s.0 s.1 s.3 _ c.across.ensures.0)
 
@@ -102,6 +102,6 @@ returns-in-Words c =
     let b = m in
     let a = b.args in
     let f = fill a.rows a.first_row a.end_row a.first_column a.end_column a.mask a.colour a.persistent in
-    let s = says_any a.rows a.first_row a.end_row a.first_column a.end_column a.mask a.colour a.persistent _ _ m.shape_of-shape.ensures c.enum_told-in-Words-1.is in
+    let s = says_any a.rows a.first_row a.end_row a.first_column a.end_column a.mask a.colour a.persistent _ _ m.shape_of-shape.ensures c.in-Words.is in
     with_demand f a.list.now b.ranges.mask.fits b.ranges.colour.fits
     (c.put_words.ensures ∙ fill_words f a.list.now s.0 s.1 s.3)

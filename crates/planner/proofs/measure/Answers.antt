@@ -11,28 +11,28 @@ overflow_mul-result c =
     let m = c in
     let a = m.args in
     let f = fill a.rows a.first_row a.end_row a.first_column a.end_column a.mask 0 a.persistent in
-    omega (arith, words_most f _ (says_any a.rows a.first_row a.end_row a.first_column a.end_column a.mask 0 a.persistent _ _ m.shape_of-shape.ensures c.known_told-in-Words-1.is))
+    omega (arith, words_most f _ (says_any a.rows a.first_row a.end_row a.first_column a.end_column a.mask 0 a.persistent _ _ m.shape_of-shape.ensures c.in-Words.is))
 
 pub overflow_mul-result-in-Blocks : goal.overflow_mul-result-in-Blocks
 overflow_mul-result-in-Blocks c =
     let m = c in
     let a = m.args in
     let f = fill a.rows a.first_row a.end_row a.first_column a.end_column a.mask 0 a.persistent in
-    omega (arith, blocks_most f _ (says_any a.rows a.first_row a.end_row a.first_column a.end_column a.mask 0 a.persistent _ _ m.shape_of-shape.ensures c.known_told-in-Blocks-1.is))
+    omega (arith, blocks_most f _ (says_any a.rows a.first_row a.end_row a.first_column a.end_column a.mask 0 a.persistent _ _ m.shape_of-shape.ensures c.in-Blocks.is))
 
 pub overflow_add-result : goal.overflow_add-result
 overflow_add-result c =
     let m = c in
     let a = m.args in
     let f = fill a.rows a.first_row a.end_row a.first_column a.end_column a.mask 0 a.persistent in
-    omega (arith, blocks_most f _ (says_any a.rows a.first_row a.end_row a.first_column a.end_column a.mask 0 a.persistent _ _ m.shape_of-shape.ensures c.known_told-in-Blocks-1.is))
+    omega (arith, blocks_most f _ (says_any a.rows a.first_row a.end_row a.first_column a.end_column a.mask 0 a.persistent _ _ m.shape_of-shape.ensures c.in-Blocks.is))
 
 pub overflow_add-result-in-Blocks : goal.overflow_add-result-in-Blocks
 overflow_add-result-in-Blocks c =
     let m = c in
     let a = m.args in
     let f = fill a.rows a.first_row a.end_row a.first_column a.end_column a.mask 0 a.persistent in
-    omega (arith, blocks_most f _ (says_any a.rows a.first_row a.end_row a.first_column a.end_column a.mask 0 a.persistent _ _ m.shape_of-shape.ensures c.known_told-in-Blocks-1.is))
+    omega (arith, blocks_most f _ (says_any a.rows a.first_row a.end_row a.first_column a.end_column a.mask 0 a.persistent _ _ m.shape_of-shape.ensures c.in-Blocks.is))
 
 pub returns-in-Refused : goal.returns-in-Refused
 unfolding shape_answer
@@ -40,7 +40,7 @@ returns-in-Refused c =
     let m = c in
     let a = m.args in
     let f = fill a.rows a.first_row a.end_row a.first_column a.end_column a.mask 0 a.persistent in
-    answer_refused f _ (says_any a.rows a.first_row a.end_row a.first_column a.end_column a.mask 0 a.persistent _ _ m.shape_of-shape.ensures c.known_told-1.is)
+    answer_refused f _ (says_any a.rows a.first_row a.end_row a.first_column a.end_column a.mask 0 a.persistent _ _ m.shape_of-shape.ensures c.in-Refused.is)
 
 pub returns-in-Nothing : goal.returns-in-Nothing
 unfolding shape_answer
@@ -48,7 +48,7 @@ returns-in-Nothing c =
     let m = c in
     let a = m.args in
     let f = fill a.rows a.first_row a.end_row a.first_column a.end_column a.mask 0 a.persistent in
-    answer_nothing f 0 (says_any a.rows a.first_row a.end_row a.first_column a.end_column a.mask 0 a.persistent _ _ m.shape_of-shape.ensures c.enum_told-1.is)
+    answer_nothing f 0 (says_any a.rows a.first_row a.end_row a.first_column a.end_column a.mask 0 a.persistent _ _ m.shape_of-shape.ensures c.in-Nothing.is)
 
 pub returns-in-Words : goal.returns-in-Words
 unfolding shape_answer
@@ -56,7 +56,7 @@ returns-in-Words c =
     let m = c in
     let a = m.args in
     let f = fill a.rows a.first_row a.end_row a.first_column a.end_column a.mask 0 a.persistent in
-    answer_words f _ (says_any a.rows a.first_row a.end_row a.first_column a.end_column a.mask 0 a.persistent _ _ m.shape_of-shape.ensures c.known_told-in-Words-1.is)
+    answer_words f _ (says_any a.rows a.first_row a.end_row a.first_column a.end_column a.mask 0 a.persistent _ _ m.shape_of-shape.ensures c.in-Words.is)
 
 pub returns-in-Blocks : goal.returns-in-Blocks
 unfolding shape_answer
@@ -64,4 +64,4 @@ returns-in-Blocks c =
     let m = c in
     let a = m.args in
     let f = fill a.rows a.first_row a.end_row a.first_column a.end_column a.mask 0 a.persistent in
-    answer_blocks f _ (says_any a.rows a.first_row a.end_row a.first_column a.end_column a.mask 0 a.persistent _ _ m.shape_of-shape.ensures c.known_told-in-Blocks-1.is)
+    answer_blocks f _ (says_any a.rows a.first_row a.end_row a.first_column a.end_column a.mask 0 a.persistent _ _ m.shape_of-shape.ensures c.in-Blocks.is)

@@ -3,4 +3,4 @@ use borrow.Author.Rules.{rules}
 use Rattle.colours.proofs.Output.steps_ok.Goals as goal
 
 pub returns-in-Colour : goal.returns-in-Colour
-returns-in-Colour c = rw c.known_told-in-Colour-1.is
+returns-in-Colour c = rw c.in-Colour.is

@@ -5,7 +5,7 @@ use Rattle.colours.specs.State.{waits}
 use Rattle.colours.proofs.Waiting.waits.Goals as goal
 
 pub returns-in-None : goal.returns-in-None
-returns-in-None c = sym (ap waits c.enum_told-1.is)
+returns-in-None c = sym (ap waits c.in-None.is)
 
 pub returns-in-Low : goal.returns-in-Low
-returns-in-Low c = sym (ap waits c.known_told-1.is)
+returns-in-Low c = sym (ap waits c.in-Low.is)

@@ -4,10 +4,10 @@ use Rattle.controller.specs.State.{overrides}
 use Rattle.controller.proofs.Controller.overrides.Goals as goal
 
 pub returns-in-Retrace : goal.returns-in-Retrace
-returns-in-Retrace c = sym (ap overrides c.enum_told-1.is)
+returns-in-Retrace c = sym (ap overrides c.in-Retrace.is)
 
 pub returns-in-Override : goal.returns-in-Override
-returns-in-Override c = sym (ap overrides c.enum_told-in-Override-1.is)
+returns-in-Override c = sym (ap overrides c.in-Override.is)
 
 pub returns-in-Interleaved : goal.returns-in-Interleaved
-returns-in-Interleaved c = sym (ap overrides c.enum_told-in-Interleaved-1.is)
+returns-in-Interleaved c = sym (ap overrides c.in-Interleaved.is)

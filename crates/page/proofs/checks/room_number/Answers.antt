@@ -5,8 +5,8 @@ use Rattle.page.proofs.checks.room_number.Goals as goal
 
 pub returns-in-Left : goal.returns-in-Left
 unfolding room_number
-returns-in-Left c = rw c.enum_told-1.is
+returns-in-Left c = rw c.in-Left.is
 
 pub returns-in-Passed : goal.returns-in-Passed
 unfolding room_number
-returns-in-Passed c = rw c.enum_told-in-Passed-1.is
+returns-in-Passed c = rw c.in-Passed.is

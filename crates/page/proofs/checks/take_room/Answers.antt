@@ -7,10 +7,10 @@ use borrow.Author.Rules.{rules}
 use Rattle.page.proofs.checks.take_room.Goals as goal
 
 pub returns-then-n-left : goal.returns-then-n-left
-returns-then-n-left c = sym (ap (λ (r : Room). takes r c.args.n) c.known_told-1.is ∙ takes_fits _ _ c.if-n-left.true)
+returns-then-n-left c = sym (ap (λ (r : Room). takes r c.args.n) c.in-Left.is ∙ takes_fits _ _ c.if-n-left.true)
 
 pub returns-else-n-left : goal.returns-else-n-left
-returns-else-n-left c = sym (ap (λ (r : Room). takes r c.args.n) c.known_told-1.is ∙ takes_over _ _ c.if-n-left.false)
+returns-else-n-left c = sym (ap (λ (r : Room). takes r c.args.n) c.in-Left.is ∙ takes_over _ _ c.if-n-left.false)
 
 pub returns-in-Passed : goal.returns-in-Passed
-returns-in-Passed c = sym (ap (λ (r : Room). takes r c.args.n) c.enum_told-1.is ∙ takes_passed _)
+returns-in-Passed c = sym (ap (λ (r : Room). takes r c.args.n) c.in-Passed.is ∙ takes_passed _)

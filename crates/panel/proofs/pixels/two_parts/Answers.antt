@@ -13,14 +13,14 @@ pub returns-in-Six : goal.returns-in-Six
 returns-in-Six c =
     let t = c in
     let a = t.args in
-    let part : (six : ℕ) → part_at a.width six ≡ six = λ six. ap (λ (w : Width). part_at w six) c.enum_told-1.is ∙ at_six six in
+    let part : (six : ℕ) → part_at a.width six ≡ six = λ six. ap (λ (w : Width). part_at w six) c.in-Six.is ∙ at_six six in
     omega (arith, t.two_kept-six.ensures, six_bits a.low, six_bits a.high, part (a.low % 64), part (a.high % 64))
 
 pub returns-in-Eight : goal.returns-in-Eight
 returns-in-Eight c =
     let t = c in
     let a = t.args in
-    let part : (six : ℕ) → part_at a.width six ≡ 4 * six + six / 16 = λ six. ap (λ (w : Width). part_at w six) c.enum_told-in-Eight-1.is ∙ at_eight six in
+    let part : (six : ℕ) → part_at a.width six ≡ 4 * six + six / 16 = λ six. ap (λ (w : Width). part_at w six) c.in-Eight.is ∙ at_eight six in
     omega (arith, t.two_kept-six.ensures, six_bits a.low, six_bits a.high, c.two_kept.ensures, top_two a.low, top_two a.high, part (a.low % 64), part (a.high % 64))
 
 pub overflow_mul-result : goal.overflow_mul-result

@@ -9,13 +9,13 @@ pub returns-in-WordWrite : goal.returns-in-WordWrite
 returns-in-WordWrite c =
     let w = c in
     let k = w in
-    rw k.known_told-1.is (word_step _ _ _ _ _ _ _ _ _ _ w.word_write.ensures)
+    rw k.in-WordWrite.is (word_step _ _ _ _ _ _ _ _ _ _ w.word_write.ensures)
 
 pub returns-in-BlockWrite : goal.returns-in-BlockWrite
 returns-in-BlockWrite c =
     let w = c in
     let k = w in
-    rw k.known_told-in-BlockWrite-1.is (block_step _ _ _ _ _ _ _ _ _ _ w.block_write.ensures)
+    rw k.in-BlockWrite.is (block_step _ _ _ _ _ _ _ _ _ _ w.block_write.ensures)
 
 pub returns-in_default : goal.returns-in_default
 returns-in_default c =

@@ -3,4 +3,4 @@ use borrow.Author.Rules.{rules}
 use Rattle.pieces.proofs.rule.before.Goals as goal
 
 pub returns-in-At : goal.returns-in-At
-returns-in-At c = rw c.known_told-1.is
+returns-in-At c = rw c.in-At.is

@@ -5,8 +5,8 @@ use Rattle.pieces_c.proofs.line.hand_line.Goals as goal
 
 pub returns-in-None : goal.returns-in-None
 unfolding handed_line
-returns-in-None c = rw c.enum_told-1.is
+returns-in-None c = rw c.in-None.is
 
 pub returns-in-At : goal.returns-in-At
 unfolding handed_line
-returns-in-At c = rw c.known_told-1.is
+returns-in-At c = rw c.in-At.is

@@ -12,7 +12,7 @@ unfolding effect refusal
 returns-in-WordWrite c =
     let w = c in
     let k = w in
-    rw k.known_told-1.is
+    rw k.in-WordWrite.is
     (did _ _ _ _ _ w.word_write-n.ensures.number (untouched w.word_write-n.result _) w.word_write-n.ensures.leaves (untouched w.word_write-n.result _))
 
 pub returns-in-BlockWrite : goal.returns-in-BlockWrite
@@ -20,27 +20,27 @@ unfolding effect refusal
 returns-in-BlockWrite c =
     let w = c in
     let k = w in
-    rw k.known_told-in-BlockWrite-1.is
+    rw k.in-BlockWrite.is
     (did _ _ _ _ _ w.block_write-n.ensures.number (untouched w.block_write-n.result _) w.block_write-n.ensures.leaves (untouched w.block_write-n.result _))
 
 pub returns-in-LoadColour : goal.returns-in-LoadColour
 unfolding effect refusal
 returns-in-LoadColour c =
     let k = c in
-    rw (k.known_told-in-LoadColour-1.is, c.load_colour.ensures)
+    rw (k.in-LoadColour.is, c.load_colour.ensures)
     (did_alone _ _ _ _ _ refl refl refl refl)
 
 pub returns-in-LoadMask : goal.returns-in-LoadMask
 unfolding effect refusal
 returns-in-LoadMask c =
     let k = c in
-    rw (k.known_told-in-LoadMask-1.is, c.load_mask.ensures)
+    rw (k.in-LoadMask.is, c.load_mask.ensures)
     (did_alone _ _ _ _ _ refl refl refl refl)
 
 pub returns-in-ResetRefresh : goal.returns-in-ResetRefresh
 unfolding effect refusal
 returns-in-ResetRefresh c =
-    rw (c.enum_told-1.is, c.reset_refresh.ensures)
+    rw (c.in-ResetRefresh.is, c.reset_refresh.ensures)
     (did_alone _ _ _ _ _ refl refl refl refl)
 
 pub returns-in-FullTransfer : goal.returns-in-FullTransfer
@@ -48,7 +48,7 @@ unfolding effect refusal
 returns-in-FullTransfer c =
     let t = c in
     let k = t in
-    rw (k.known_told-in-FullTransfer-1.is, t.full_transfer.ensures.answer)
+    rw (k.in-FullTransfer.is, t.full_transfer.ensures.answer)
     (did _ _ _ _ _ refl refl (untouched (first_of (given _ _ _) (full_refusal _ _ _)) _) t.full_transfer.ensures.serial)
 
 pub returns-in-SplitTransfer : goal.returns-in-SplitTransfer
@@ -56,12 +56,12 @@ unfolding effect refusal
 returns-in-SplitTransfer c =
     let t = c in
     let k = t in
-    rw (k.known_told-in-SplitTransfer-1.is, t.split_transfer.ensures.answer)
+    rw (k.in-SplitTransfer.is, t.split_transfer.ensures.answer)
     (did _ _ _ _ _ refl refl (untouched (first_of (given _ _ _) (split_refusal _ _ _ _ _)) _) t.split_transfer.ensures.serial)
 
 pub returns-in-StopPoints : goal.returns-in-StopPoints
 unfolding effect refusal
 returns-in-StopPoints c =
     let k = c in
-    rw (k.known_told-in-StopPoints-1.is, c.stop_points.ensures)
+    rw (k.in-StopPoints.is, c.stop_points.ensures)
     (did_alone _ _ _ _ _ refl refl refl refl)

@@ -19,7 +19,7 @@ returns-in-None c =
     let a = d.args in
     c.with_serial-in-None.ensures
     ∙ ap (λ (x : ℕ). at a.self x None) d.advance-later.ensures.0
-    ∙ goes_round a.self a.count d.advance-later.ensures.1 c.enum_told-1.is
+    ∙ goes_round a.self a.count d.advance-later.ensures.1 c.in-None.is
 
 pub returns-in-Tap : goal.returns-in-Tap
 returns-in-Tap c =

@@ -5,8 +5,8 @@ use Rattle.vram.proofs.Vram.ruled.Goals as goal
 
 pub returns-in-None : goal.returns-in-None
 unfolding ruled
-returns-in-None c = rw c.enum_told-1.is
+returns-in-None c = rw c.in-None.is
 
 pub returns-in-Tap : goal.returns-in-Tap
 unfolding ruled
-returns-in-Tap c = rw c.known_told-1.is
+returns-in-Tap c = rw c.in-Tap.is
