@@ -157,7 +157,7 @@ pub fetches_show : {o a : ℕ} (k : ℕ) (s : Controller) → Ruled s → Shows 
 fetches_show {o} {a} zero s r h = let e : a ≡ wrap (a + 0) = omega (arith, r.counter, h.counter) in moved e h
 fetches_show {o} {a} (suc k) s r h =
     let e : wrap (wrap (a + 1) + k) ≡ wrap (a + suc k) = omega arith in
-    moved e (fetches_show k (after Fetch s) (after_ruled Fetch s r) (fetch_is s r h))
+    moved e (fetches_show {o = o} {a = wrap (a + 1)} k (after Fetch s) (after_ruled Fetch s r) (fetch_is s r h))
 
 line_shows : {o a : ℕ} (w : ℕ) (s : Controller) → Ruled s → Shows o a s → Shows o (wrap (a + (w + o))) (session (line w) s)
 line_shows {o} {a} w s r h =
@@ -174,4 +174,4 @@ lines_show {o} {a} zero w s r h = let e : a ≡ wrap (a + 0 * (w + o)) = omega (
 lines_show {o} {a} (suc l) w s r h =
     let e : wrap (wrap (a + (w + o)) + l * (w + o)) ≡ wrap (a + suc l * (w + o)) = omega (arith, suc-mul l (w + o)) in
     rw (session_append (line w) (lines l w) s)
-    (moved e (lines_show l w (session (line w) s) (session_ruled (line w) s r) (line_shows w s r h)))
+    (moved e (lines_show {o = o} {a = wrap (a + (w + o))} l w (session (line w) s) (session_ruled (line w) s r) (line_shows w s r h)))

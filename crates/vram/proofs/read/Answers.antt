@@ -23,7 +23,7 @@ place-at-requires c =
     let a = d.args in
     let n = rw (d.fitted.ensures, d.placed-n.ensures) at d.refuse-n.ensures in
     let z = read_zero (length a.memory.now) a.row a.column a.strobes (sym n ∙ c.if-n-ne-DONE.false) in
-    (omega (arith, z.0.row-fitted, z.1), omega (arith, z.0.column-within))
+    (omega (arith, z.0.row_fitted, z.1), omega (arith, z.0.column_within))
 
 pub bounds-memory-at : goal.bounds-memory-at
 unfolding word_read_refusal

@@ -3,4 +3,4 @@ use Rattle.std.proofs.Common.{rules}
 use Rattle.controller.proofs.Controller.refreshed.Goals as goal
 
 pub returns : goal.returns
-returns c = rw c.wrapping_add_u8.ensures at c.with_refresh.ensures
+returns c = rw c.wrapping_add_u8.ensures.value at c.with_refresh.ensures

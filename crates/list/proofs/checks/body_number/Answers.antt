@@ -43,4 +43,8 @@ pub returns-in_default : goal.returns-in_default
 returns-in_default c = number_none _ _ _ _ c.if-tag.false c.if-tag-lt3.true
 
 pub returns-in_default-2 : goal.returns-in_default-2
-returns-in_default-2 c = let r = c.in_default-1.is in number_reset _ _ _ _ c.if-tag-lt5.false r.0.0.1 r.0.1 r.1
+returns-in_default-2 c = 
+    let six : c.args.tag ≢ 6 = omega arith in
+    let seven : c.args.tag ≢ 7 = omega arith in
+    let nine : c.args.tag ≢ 9 = omega arith in
+    number_reset _ _ _ _ c.if-tag-lt5.false six seven nine

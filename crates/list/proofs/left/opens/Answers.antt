@@ -13,4 +13,7 @@ returns-in-5 c = rw c.in-5.is
 
 pub returns-in_default : goal.returns-in_default
 unfolding opens
-returns-in_default c = rw (ne_eqb _ 4 c.in_default.in_default-own.0.1, ne_eqb _ 5 c.in_default.in_default-own.1)
+returns-in_default c =
+    let four : c.args.tag ≢ 4 = omega arith in
+    let five : c.args.tag ≢ 5 = omega arith in
+    rw (ne_eqb _ 4 four, ne_eqb _ 5 five)

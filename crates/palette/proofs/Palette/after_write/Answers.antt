@@ -1,5 +1,5 @@
 -- `palette::Palette::after_write` meets its contract. Assumes nothing.
-use Rattle.std.proofs.Common.{rules, ne_eqb}
+use Rattle.std.proofs.Common.{◌≢◌, arith, rules, ne_eqb}
 use Rattle.palette.specs.Access.{after_write, table_after_write}
 use Rattle.palette.proofs.Palette.after_write.Goals as goal
 
@@ -30,11 +30,9 @@ returns-in-2 c = let k = c.in-2.is in record {
 pub returns-in_default : goal.returns-in_default
 unfolding after_write table_after_write
 returns-in_default c =
-    let a = c in
-    let k = a.in_default.is in
-    let e = rw a.addressed-in_default.ensures at c.taken.ensures in
-    let n = ne_eqb _ _ k.0.1 in
-    record {
-  state = rw (ne_eqb _ _ k.0.0.1, n, ne_eqb _ _ k.1) e;
-  entry = rw n;
-}
+    let select = c.args.select in
+    let zero : select ≢ 0 = omega arith in
+    let one : select ≢ 1 = omega arith in
+    let two : select ≢ 2 = omega arith in
+    let e = rw c.addressed-in_default.ensures at c.taken.ensures in
+    record { state = rw (ne_eqb _ _ zero, ne_eqb _ _ one, ne_eqb _ _ two) e; entry = rw (ne_eqb _ _ one) }

@@ -1,5 +1,6 @@
 -- `palette::Palette::register` meets its contract. Assumes nothing.
 use Rattle.std.proofs.Common.{ne_eqb}
+use Rattle.std.proofs.Common.{◌≢◌, arith}
 use Rattle.palette.proofs.Palette.register.Goals as goal
 
 pub returns-in-0 : goal.returns-in-0
@@ -9,4 +10,7 @@ pub returns-in-1 : goal.returns-in-1
 returns-in-1 c = rw c.in-1.is
 
 pub returns-in_default : goal.returns-in_default
-returns-in_default c = rw (ne_eqb _ _ c.in_default.in_default-own.0.1, ne_eqb _ _ c.in_default.in_default-own.1)
+returns-in_default c =
+    let zero : c.args.self.phase ≢ 0 = omega arith in
+    let one : c.args.self.phase ≢ 1 = omega arith in
+    rw (ne_eqb _ _ zero, ne_eqb _ _ one)

@@ -20,7 +20,7 @@ bounds-serial-at c =
     let d = e in
     let a = d.args in
     let n = rw (d.ruled.ensures, d.refuse-n-2.ensures, d.refuse-n.ensures) at d.refuse-n-3.ensures in
-    omega (arith, register_long a.self (length a.serial.now) (sym n ∙ e.if-n-ne-DONE.false), c.struct_known.given)
+    omega (arith, register_long a.self (length a.serial.now) (sym n ∙ e.if-n-ne-DONE.false))
 
 pub returns : goal.returns
 unfolding clock_refusal

@@ -25,9 +25,8 @@ pub returns-in-Tap : goal.returns-in-Tap
 returns-in-Tap c =
     let d = c in
     let a = d.args in
-    let w = c.waiting.given in
     c.with_serial-in-Tap.ensures
     ∙ ap (λ (x : ℕ). at a.self x None)
-    (c.advance-past.ensures.0 ∙ ap (λ (x : ℕ). after w.0.0 (a.count - x)) d.through-through.ensures)
-    ∙ jumps a.self a.count d.advance-later.ensures.1 w.0.0 c.advance-past.ensures.1 w.1
+    (c.advance-past.ensures.0 ∙ ap (λ (x : ℕ). after c.in-Tap.tap (a.count - x)) d.through-through.ensures)
+    ∙ jumps a.self a.count d.advance-later.ensures.1 c.in-Tap.tap c.advance-past.ensures.1 c.in-Tap.is
     (omega (arith, c.if-count-through.false, d.through-through.ensures))

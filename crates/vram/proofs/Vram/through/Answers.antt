@@ -9,8 +9,6 @@ unfolding length_of
 returns c = ap (λ (n : ℕ). through_in n c.args.self.pointer) c.length-length.ensures
 
 pub overflow_sub-result : goal.overflow_sub-result
-overflow_sub-result c = le_of_lt (mod-lt c.args.self.pointer (rem_result c))
-
--- LEFT: rem_result : tie.Need-nonzero-rem-result
--- unfolding length_of
--- rem_result c = subst (λ (n : ℕ). 0 < n) (sym c.length.ensures) (partition c.before.args.self).some
+unfolding length_of
+overflow_sub-result c = le_of_lt (mod-lt c.args.self.pointer 
+    (subst (λ (n : ℕ). 0 < n) (sym c.length-length.ensures) (partition c.args.self).some))
