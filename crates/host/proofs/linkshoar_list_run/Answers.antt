@@ -12,7 +12,7 @@ returns-then-lawful c =
     let l = t in
     let a = l.args in
     list_done effect a.state (sym l.lawful.ensures ∙ t.if-lawful.true) t.take.result t.take.ensures
-    a.memory.now a.serial.now a.list.now r.run-ran.result r.run-ran.new.1.0 r.run-ran.new.1.1.0 r.run-ran.ensures c.hand_ran.result c.hand_ran.ensures
+    a.memory.now a.serial.now a.list.now r.run-ran.result r.run-ran.new.memory r.run-ran.new.serial r.run-ran.ensures c.hand_ran.result c.hand_ran.ensures
 
 pub returns : goal.returns
 returns c =

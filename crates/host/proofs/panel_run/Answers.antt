@@ -12,7 +12,7 @@ returns-then-lawful c =
     let l = t in
     let a = l.args in
     panel_done a.state (sym l.lawful.ensures ∙ t.if-lawful.true) t.take.result t.take.ensures
-    (part_at a.width) a.serial.now a.palette a.table.now a.clocks a.blank a.out.now r.run_at-answered.result r.run_at-answered.new.1.1.1.1.1.1.1.0 r.run_at-answered.ensures c.hand.result c.hand.ensures
+    (part_at a.width) a.serial.now a.palette a.table.now a.clocks a.blank a.out.now r.run_at-answered.result r.run_at-answered.new.out r.run_at-answered.ensures c.hand.result c.hand.ensures
 
 pub returns : goal.returns
 returns c =

@@ -10,6 +10,7 @@ use Rattle.list.specs.Fields.{fields}
 use Rattle.list.proofs.Turns.{fill_loads, fill_opens, end_check, turn_bad, turn_fits, turn_good, rest_less, rest_within}
 use borrow.Author.Rules.{rules}
 use Rattle.list.proofs.check.Goals as goal
+use Rattle.list.proofs.check.Goals.{then-tag-gt3, else-tag-gt3, then-rest-eq0, else-rest-eq0+then-n-ne-DONE}
 
 pub loop-rest-init : goal.loop-rest-init
 loop-rest-init c =
@@ -49,14 +50,15 @@ loop-rest-preserved c =
     let f = e in
     let l = f.loop-rest in
     let made = j.if-tag-gt3.made in
-    let left = j.if-tag-gt3.left in (
+    let left = j.if-tag-gt3.left in
+    let good =
+        turn_good _ _ l.left l.rest.now f.field_number-n.result f.field_number-n.ensures e.if-n-ne-DONE.false b.body_length-size.result b.body_length-size.ensures.0
+        _ l.invariant.0 made left in (
       rest_within l.rest.now b.body_length-size.result b.body_length-size.ensures.0 _ l.invariant.0,
-      ⊎_elim
-          (λ x. turn_good _ _ l.left l.rest.now f.field_number-n.result f.field_number-n.ensures e.if-n-ne-DONE.false b.body_length-size.result b.body_length-size.ensures.0
-          _ l.invariant.0 made left x.2 (x.3 ∙ x.1.ensures))
-          (λ x. turn_good _ _ l.left l.rest.now f.field_number-n.result f.field_number-n.ensures e.if-n-ne-DONE.false b.body_length-size.result b.body_length-size.ensures.0
-          _ l.invariant.0 made left (x.1 ∙ fill_loads _ _ x.0.left) (x.2 ∙ fill_opens _ _ _ x.0.left))
-          j.if-tag-gt3.branch
+      (elim c.if-tag-gt3.branch [
+        then-tag-gt3 w ↦ good w.made-is (w.left-is ∙ w.opens-left.ensures)
+        | else-tag-gt3 w ↦ good (w.made-is ∙ fill_loads _ _ w.if-tag-gt3.false) (w.left-is ∙ fill_opens _ _ _ w.if-tag-gt3.false)
+      ])
           ∙ l.invariant.1,
     )
 
@@ -68,8 +70,9 @@ returns c =
     let v = j.if-rest-eq0.bad in
     let w = b.left_behind.result in
     let r = c.first_bad.result in
-    ⊎_elim
-    (λ x. end_check _ _ l.left l.rest.now v w r c.first_bad.ensures _ x.0.taken x.1 b.left_behind.ensures)
-    (λ y. turn_bad _ _ l.left l.rest.now v w r c.first_bad.ensures _ y.0.left y.1.result y.1.ensures y.2.taken y.3)
-    j.if-rest-eq0.branch
+    (elim c.if-rest-eq0.branch [
+      then-rest-eq0 x ↦ end_check _ _ l.left l.rest.now v w r c.first_bad.ensures _ x.if-rest-eq0.true x.bad-is c.left_behind.ensures
+      | else-rest-eq0+then-n-ne-DONE y ↦
+          turn_bad _ _ l.left l.rest.now v w r c.first_bad.ensures _ y.if-rest-eq0.false y.field_number-n.result y.field_number-n.ensures y.if-n-ne-DONE.true y.bad-is
+    ])
     ∙ l.invariant.1

@@ -11,4 +11,4 @@ returns c =
     let z = c in
     let i = z in
     let n = i in
-    cleared_out n.args.marks.now n.length_number-n.result n.length_number-n.ensures i.if-n-ne-DONE.false z.put_zeros.new.0 z.put_zeros.ensures
+    cleared_out n.args.marks.now n.length_number-n.result n.length_number-n.ensures i.if-n-ne-DONE.false z.put_zeros.new.marks z.put_zeros.ensures

@@ -23,7 +23,7 @@ returns-then-number-ne-DONE c =
     let g = l in
     let a = g.args in
     refused_out a.list.now (board a.state a.memory.now a.serial.now) a.marks.now g.given-given.result l.length_number-length.result r.refuse-n.result
-    g.given-given.ensures l.length_number-length.ensures r.refuse-n.ensures e.if-n-ne-DONE.false (outcome p.run-ran.result p.run-ran.new.1.0 p.run-ran.new.1.1.0) p.run-ran.ensures c.if-number-ne-DONE.true
+    g.given-given.ensures l.length_number-length.ensures r.refuse-n.ensures e.if-n-ne-DONE.false (outcome p.run-ran.result p.run-ran.new.memory p.run-ran.new.serial) p.run-ran.ensures c.if-number-ne-DONE.true
 
 pub mark_writes-requires : goal.mark_writes-requires
 mark_writes-requires c =
@@ -35,7 +35,7 @@ mark_writes-requires c =
     let g = l in
     let a = g.args in
     accepted_list a.list.now (board a.state a.memory.now a.serial.now) a.marks.now g.given-given.result l.length_number-length.result r.refuse-n.result
-    g.given-given.ensures l.length_number-length.ensures r.refuse-n.ensures e.if-n-ne-DONE.false (outcome p.run-ran.result p.run-ran.new.1.0 p.run-ran.new.1.1.0) p.run-ran.ensures t.if-number-ne-DONE.false
+    g.given-given.ensures l.length_number-length.ensures r.refuse-n.ensures e.if-n-ne-DONE.false (outcome p.run-ran.result p.run-ran.new.memory p.run-ran.new.serial) p.run-ran.ensures t.if-number-ne-DONE.false
 
 pub returns : goal.returns
 returns c =
@@ -48,5 +48,5 @@ returns c =
     let g = l in
     let a = g.args in
     done_out a.list.now (board a.state a.memory.now a.serial.now) a.marks.now g.given-given.result l.length_number-length.result r.refuse-n.result
-    g.given-given.ensures l.length_number-length.ensures r.refuse-n.ensures e.if-n-ne-DONE.false (outcome p.run-ran.result p.run-ran.new.1.0 p.run-ran.new.1.1.0) p.run-ran.ensures t.if-number-ne-DONE.false
+    g.given-given.ensures l.length_number-length.ensures r.refuse-n.ensures e.if-n-ne-DONE.false (outcome p.run-ran.result p.run-ran.new.memory p.run-ran.new.serial) p.run-ran.ensures t.if-number-ne-DONE.false
     _ m.mark_writes.ensures

@@ -12,7 +12,7 @@ returns-then-lawful c =
     let l = t in
     let a = l.args in
     marked_done effect a.state a.memory.now a.serial.now a.marks.now a.list.now (sym l.lawful.ensures ∙ t.if-lawful.true) t.take.result t.take.ensures
-    r.run-ran.result r.run-ran.new.1.0 r.run-ran.new.1.1.0 r.run-ran.new.1.1.1.0 r.run-ran.ensures c.hand_ran.result c.hand_ran.ensures
+    r.run-ran.result r.run-ran.new.memory r.run-ran.new.serial r.run-ran.new.marks r.run-ran.ensures c.hand_ran.result c.hand_ran.ensures
 
 pub returns : goal.returns
 returns c =

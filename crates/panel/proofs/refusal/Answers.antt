@@ -13,5 +13,5 @@ returns c =
     let d = c in
     let e = d in
     let a = e.args in
-    let n = ap (λ (x : Moved). x.number) e.clocks-moved.ensures ∙ clocks_number a.state a.clocks-moved in
+    let n = ap (λ (x : Moved). x.number) e.clocks-moved.ensures ∙ clocks_number a.state a.clocks in
     rw (c.ruled-2.ensures, c.ruled.ensures, d.refuse-n-3.ensures, d.refuse-n-2.ensures, first_of_is, n, d.refuse-n.ensures) at c.refuse.ensures

@@ -12,7 +12,7 @@ pub run_bytes-requires : goal.run_bytes-requires
 run_bytes-requires c =
     let e = c in
     let a = e.args in
-    let z = run_zero a.state a.palette (length a.serial.now) (length a.table.now) a.clocks-moved (length a.out.now) (sym e.refusal-n.ensures ∙ e.if-n-ne-DONE.false) in
+    let z = run_zero a.state a.palette (length a.serial.now) (length a.table.now) a.clocks (length a.out.now) (sym e.refusal-n.ensures ∙ e.if-n-ne-DONE.false) in
     (z.moves, z.register, z.entries, z.room)
 
 pub returns : goal.returns

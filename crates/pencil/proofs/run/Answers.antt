@@ -20,4 +20,4 @@ returns c =
     let g = e in
     let a = g.args in
     checked_out pencil a.list.now (board a.state a.memory.now a.serial.now) g.given-n.result g.given-n.ensures e.if-n-ne-DONE.false k.check-bad.result
-    k.check-bad.ensures (outcome f.finish.result f.finish.new.1.0 f.finish.new.1.1.0) f.finish.ensures
+    k.check-bad.ensures (outcome f.finish.result f.finish.new.memory f.finish.new.serial) f.finish.ensures

@@ -19,5 +19,5 @@ returns c =
     let g = e in
     let a = g.args in
     checked_marked a.list.now (board a.state a.memory.now a.serial.now) g.given-n.result g.given-n.ensures a.marks.now e.if-n-ne-DONE.false
-    m.mark_list-bad.result m.mark_list-bad.new.1.1.1.0 m.mark_list-bad.ensures (outcome f.finish.result f.finish.new.1.0 f.finish.new.1.1.0)
+    m.mark_list-bad.result m.mark_list-bad.new.marks m.mark_list-bad.ensures (outcome f.finish.result f.finish.new.memory f.finish.new.serial)
     f.finish.ensures

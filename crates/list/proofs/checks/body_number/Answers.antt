@@ -1,5 +1,5 @@
 -- `list::checks::body_number` meets its contract. Assumes nothing.
-use mathlib.Core.Path.{◌∙◌}
+use Rattle.std.proofs.Common.{◌≢◌, ◌∙◌}
 use native.Mathlib.Omega.{arith}
 use lib.Dec.{leb}
 use borrow.Author.Tests.{leb-true}
@@ -22,7 +22,7 @@ pub stop_number-requires : goal.stop_number-requires
 stop_number-requires c = c.requires ∙ len_stop _ c.in-9.is
 
 pub load_number-requires : goal.load_number-requires
-load_number-requires c = c.requires ∙ len_load _ c.if-tag-lt3.false c.if-tag-lt5.true
+load_number-requires c = c.requires ∙ len_load _ (omega arith) (omega arith)
 
 pub returns-then-tag : goal.returns-then-tag
 returns-then-tag c = c.write_number.ensures ∙ number_write _ _ _ _ c.if-tag.true
@@ -37,14 +37,14 @@ pub returns-in-9 : goal.returns-in-9
 returns-in-9 c = c.stop_number.ensures ∙ number_stop _ _ _ _ c.in-9.is
 
 pub returns-in-3 : goal.returns-in-3
-returns-in-3 c = c.load_number.ensures ∙ number_load _ _ _ _ c.if-tag-lt3.false c.if-tag-lt5.true
+returns-in-3 c = c.load_number.ensures ∙ number_load _ _ _ _ (omega arith) (omega arith)
 
 pub returns-in_default : goal.returns-in_default
-returns-in_default c = number_none _ _ _ _ c.if-tag.false c.if-tag-lt3.true
+returns-in_default c = number_none _ _ _ _ c.if-tag.false (omega arith)
 
 pub returns-in_default-2 : goal.returns-in_default-2
-returns-in_default-2 c = 
+returns-in_default-2 c =
     let six : c.args.tag ≢ 6 = omega arith in
     let seven : c.args.tag ≢ 7 = omega arith in
     let nine : c.args.tag ≢ 9 = omega arith in
-    number_reset _ _ _ _ c.if-tag-lt5.false six seven nine
+    number_reset _ _ _ _ (omega arith) six seven nine

@@ -1,5 +1,5 @@
 -- `list::left::opens` meets its contract. Assumes nothing.
-use borrow.Author.Tests.{ne_eqb}
+use Rattle.std.proofs.Common.{◌≢◌, ne_eqb, arith}
 use Rattle.list.specs.Open.{opens}
 use Rattle.list.proofs.left.opens.Goals as goal
 

@@ -1,5 +1,5 @@
 -- `list::runs::cycle_of` meets its contract. Assumes nothing.
-use mathlib.Core.Path.{◌∙◌}
+use Rattle.std.proofs.Common.{◌≢◌, ◌∙◌}
 use native.Mathlib.Omega.{arith}
 use borrow.Author.Tests.{ne_eqb}
 use Rattle.list.specs.TagLaws.{len_write, len_load, len_transfer, len_stop}
@@ -58,6 +58,11 @@ returns-in-9 c = rw c.in-9.is c.stop_points.ensures
 pub returns-in_default : goal.returns-in_default
 unfolding cycle_of
 returns-in_default c =
-    let r = c.in_default.is in
-    let q = r.0.0.0 in
-    rw (ne_eqb _ 1 q.0.0.0.1, ne_eqb _ 2 q.0.0.1, ne_eqb _ 3 q.0.1, ne_eqb _ 4 q.1, ne_eqb _ 6 r.0.0.1, ne_eqb _ 7 r.0.1, ne_eqb _ 9 r.1)
+    let one : c.args.tag ≢ 1 = omega arith in
+    let two : c.args.tag ≢ 2 = omega arith in
+    let three : c.args.tag ≢ 3 = omega arith in
+    let four : c.args.tag ≢ 4 = omega arith in
+    let six : c.args.tag ≢ 6 = omega arith in
+    let seven : c.args.tag ≢ 7 = omega arith in
+    let nine : c.args.tag ≢ 9 = omega arith in
+    rw (ne_eqb _ 1 one, ne_eqb _ 2 two, ne_eqb _ 3 three, ne_eqb _ 4 four, ne_eqb _ 6 six, ne_eqb _ 7 seven, ne_eqb _ 9 nine)

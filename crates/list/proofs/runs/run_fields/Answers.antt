@@ -38,8 +38,8 @@ loop-rest-preserved c =
     let b = f in
     let t = b in
     let l = t.loop-rest in (
-      k.cycle-answer.auto.1.0 ∙ l.invariant.0,
-      k.cycle-answer.auto.1.1.0 ∙ l.invariant.1,
+      k.cycle-answer.auto.memory ∙ l.invariant.0,
+      k.cycle-answer.auto.serial ∙ l.invariant.1,
       run_readable l.rest.now t.loop-rest-test.true l.invariant.2 b.body_length-size.result b.body_length-size.ensures.0,
       turn_run l.rest.now t.loop-rest-test.true l.invariant.2 b.body_length-size.result b.body_length-size.ensures.0
           (board l.current l.memory l.serial) f.cycle_of-cycle.result f.cycle_of-cycle.ensures _ k.cycle-answer.ensures

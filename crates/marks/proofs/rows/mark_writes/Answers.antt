@@ -57,7 +57,7 @@ loop-rest-preserved c =
     let m = c in
     let t = m in
     let l = t.loop-rest in (
-      m.mark_field.auto.1.0 ∙ l.invariant.0,
+      m.mark_field.auto.marks ∙ l.invariant.0,
       rest_readable l.rest.now t.loop-rest-test.true l.invariant.1 _ refl,
       turn_marks l.rest.now t.loop-rest-test.true l.invariant.1 _ refl l.marks _ m.mark_field.ensures ∙ l.invariant.2,
     )

@@ -39,7 +39,7 @@ overflow_add-at c =
     let p = i.requires in
     let a = i.args in
     let h : l.at + length (joined (fills_of a.rows l.rest.now)) ≤ length l.list = omega (arith, l.invariant.0, l.invariant.2, p.3) in
-    omega (arith, put_at a.rows p.0 p.1 l.rest.now i.loop-rest-test.true l.invariant.1 l.list w.put_fill-fill.new.1.1.0 l.at h w.put_fill-fill.result w.put_fill-fill.ensures, h)
+    omega (arith, put_at a.rows p.0 p.1 l.rest.now i.loop-rest-test.true l.invariant.1 l.list w.put_fill-fill.new.list l.at h w.put_fill-fill.result w.put_fill-fill.ensures, h)
 
 pub overflow_add-cycles : goal.overflow_add-cycles
 overflow_add-cycles c =
@@ -49,7 +49,7 @@ overflow_add-cycles c =
     let p = i.requires in
     let a = i.args in
     let h : l.at + length (joined (fills_of a.rows l.rest.now)) ≤ length l.list = omega (arith, l.invariant.0, l.invariant.2, p.3) in
-    omega (arith, put_count a.rows p.0 p.1 l.rest.now i.loop-rest-test.true l.invariant.1 l.list w.put_fill-fill.new.1.1.0 l.at h w.put_fill-fill.result w.put_fill-fill.ensures l.cycles, l.invariant.3, count_within (plans (fills_of a.rows a.rectangles.now)), p.3)
+    omega (arith, put_count a.rows p.0 p.1 l.rest.now i.loop-rest-test.true l.invariant.1 l.list w.put_fill-fill.new.list l.at h w.put_fill-fill.result w.put_fill-fill.ensures l.cycles, l.invariant.3, count_within (plans (fills_of a.rows a.rectangles.now)), p.3)
 
 pub slice_bounds-rest-count : goal.slice_bounds-rest-count
 slice_bounds-rest-count c =
@@ -80,11 +80,11 @@ loop-rest-preserved c =
     let p = i.requires in
     let a = i.args in
     let h : l.at + length (joined (fills_of a.rows l.rest.now)) ≤ length l.list = omega (arith, l.invariant.0, l.invariant.2, p.3) in (
-      put_length a.rows p.0 p.1 l.rest.now i.loop-rest-test.true l.invariant.1 l.list w.put_fill-fill.new.1.1.0 l.at h w.put_fill-fill.result w.put_fill-fill.ensures ∙ l.invariant.0,
+      put_length a.rows p.0 p.1 l.rest.now i.loop-rest-test.true l.invariant.1 l.list w.put_fill-fill.new.list l.at h w.put_fill-fill.result w.put_fill-fill.ensures ∙ l.invariant.0,
       put_accepted a.rows p.0 p.1 l.rest.now i.loop-rest-test.true l.invariant.1,
-      put_at a.rows p.0 p.1 l.rest.now i.loop-rest-test.true l.invariant.1 l.list w.put_fill-fill.new.1.1.0 l.at h w.put_fill-fill.result w.put_fill-fill.ensures ∙ l.invariant.2,
-      put_count a.rows p.0 p.1 l.rest.now i.loop-rest-test.true l.invariant.1 l.list w.put_fill-fill.new.1.1.0 l.at h w.put_fill-fill.result w.put_fill-fill.ensures l.cycles ∙ l.invariant.3,
-      put_list a.rows p.0 p.1 l.rest.now i.loop-rest-test.true l.invariant.1 l.list w.put_fill-fill.new.1.1.0 l.at h w.put_fill-fill.result w.put_fill-fill.ensures ∙ l.invariant.4,
+      put_at a.rows p.0 p.1 l.rest.now i.loop-rest-test.true l.invariant.1 l.list w.put_fill-fill.new.list l.at h w.put_fill-fill.result w.put_fill-fill.ensures ∙ l.invariant.2,
+      put_count a.rows p.0 p.1 l.rest.now i.loop-rest-test.true l.invariant.1 l.list w.put_fill-fill.new.list l.at h w.put_fill-fill.result w.put_fill-fill.ensures l.cycles ∙ l.invariant.3,
+      put_list a.rows p.0 p.1 l.rest.now i.loop-rest-test.true l.invariant.1 l.list w.put_fill-fill.new.list l.at h w.put_fill-fill.result w.put_fill-fill.ensures ∙ l.invariant.4,
     )
 
 pub shape_of-list : goal.shape_of-list

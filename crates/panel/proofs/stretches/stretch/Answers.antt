@@ -30,8 +30,8 @@ slice_bounds-show_words-end c =
     let d = m in
     let s = d in
     let a = s.args in
-    let t = there a.state a.done a.clocks-here d.clocks-here.result d.clocks-here.ensures s.requires.4 s.requires.0 in
-    let q = through_within d.clocks-here.result.state (omega (arith, c.struct_known.given)) in
+    let t = there a.state a.done a.clocks d.clocks-here.result d.clocks-here.ensures s.requires.4 s.requires.0 in
+    let q = through_within d.clocks-here.result.state (omega arith) in
     omega (arith, m.least-count.ensures, t.1, q.1, s.requires.1)
 
 pub returns : goal.returns
@@ -43,7 +43,7 @@ returns c =
     let s = d in
     let a = s.args in
     let here = d.clocks-here.result.state in
-    let t = there a.state a.done a.clocks-here d.clocks-here.result d.clocks-here.ensures s.requires.4 s.requires.0 in
+    let t = there a.state a.done a.clocks d.clocks-here.result d.clocks-here.ensures s.requires.4 s.requires.0 in
     let p : here.pointer < 256 = omega (arith, k.struct_known.given) in
     let q = through_within here p in (
       omega (arith, m.least-count.ensures, t.1, q.0),

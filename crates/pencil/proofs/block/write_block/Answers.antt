@@ -18,7 +18,7 @@ loop-j-preserved c =
     let t = b in
     let l = t.loop-j in (
       omega arith,
-      w.write_word.auto.0 ∙ l.invariant.1,
+      w.write_word.auto.memory ∙ l.invariant.1,
       block_turn _ _ _ _ _ _ l.memory l.j b.bits_left-left.result _ (omega (arith, t.loop-j-test.true)) l.invariant.2 b.bits_left-left.ensures w.write_word.ensures,
     )
 

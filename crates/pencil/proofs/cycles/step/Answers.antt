@@ -21,4 +21,4 @@ pub returns-in_default : goal.returns-in_default
 returns-in_default c =
     let k = c in
     let a = k.args in
-    other_step a.cycle (board a.state a.memory.now a.serial.now) (outcome k.cycle-answer.result k.cycle-answer.new.1.0 k.cycle-answer.new.1.1.0) k.cycle-answer.ensures
+    other_step a.cycle (board a.state a.memory.now a.serial.now) (outcome k.cycle-answer.result k.cycle-answer.new.memory k.cycle-answer.new.serial) k.cycle-answer.ensures

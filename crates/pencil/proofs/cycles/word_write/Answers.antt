@@ -18,7 +18,7 @@ write_word-requires c =
     let e = c in
     let a = e.args in
     word_within (length a.memory.now) a.row a.column
-    (write_placed e.write_number-n.result a.state (length a.memory.now) a.serial-words a.row a.column a.masking
+    (write_placed e.write_number-n.result a.state (length a.memory.now) a.serial_words a.row a.column a.masking
     a.mask a.strobes e.write_number-n.ensures e.if-n-ne-DONE.false)
 
 pub returns : goal.returns

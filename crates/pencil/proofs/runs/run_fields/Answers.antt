@@ -36,8 +36,8 @@ loop-cycle-preserved c =
     let h = k in
     let o = h in
     let l = o.loop-cycle in (
-      k.step-current.auto.1.0 ∙ l.invariant.0,
-      k.step-current.auto.1.1.0 ∙ l.invariant.1,
+      k.step-current.auto.memory ∙ l.invariant.0,
+      k.step-current.auto.serial ∙ l.invariant.1,
       turn_run l.rest.now o.head_of-head.result o.head_of-head.ensures h.head.given.0.0 h.head.given.0.1.0 h.in-Whole.is _ _ k.step-current.ensures
           ∙ l.invariant.2,
     )

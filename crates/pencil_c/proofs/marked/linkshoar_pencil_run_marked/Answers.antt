@@ -12,7 +12,7 @@ returns-then-lawful c =
     let l = t in
     let a = l.args in
     marked_done pencil a.state a.memory.now a.serial.now a.marks.now a.list.now (sym l.lawful.ensures ∙ t.if-lawful.true) t.take.result t.take.ensures
-    r.run_marked-ran.result r.run_marked-ran.new.1.0 r.run_marked-ran.new.1.1.0 r.run_marked-ran.new.1.1.1.0 r.run_marked-ran.ensures c.hand_ran.result c.hand_ran.ensures
+    r.run_marked-ran.result r.run_marked-ran.new.memory r.run_marked-ran.new.serial r.run_marked-ran.new.marks r.run_marked-ran.ensures c.hand_ran.result c.hand_ran.ensures
 
 pub returns : goal.returns
 returns c =

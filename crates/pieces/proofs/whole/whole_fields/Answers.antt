@@ -41,10 +41,10 @@ pub meet-f-requires : goal.meet-f-requires
 meet-f-requires c = c.loop-at.invariant.4
 
 pub shape_of-memory-then-f : goal.shape_of-memory-then-f
-shape_of-memory-then-f c = c.meet-f.auto.1.1.1.0 ∙ c.loop-at.invariant.0
+shape_of-memory-then-f c = c.meet-f.auto.memory ∙ c.loop-at.invariant.0
 
 pub shape_of-serial-then-f : goal.shape_of-serial-then-f
-shape_of-serial-then-f c = c.meet-f.auto.1.1.1.1.0 ∙ c.loop-at.invariant.1
+shape_of-serial-then-f c = c.meet-f.auto.serial ∙ c.loop-at.invariant.1
 
 pub returns-then-f : goal.returns-then-f
 returns-then-f c =
@@ -75,10 +75,10 @@ overflow_add-used c =
     (arith, turn_inside t l.used _ (tail_part t l.used) l.invariant.2 l.at l.opened _ l.invariant.3 _ _ _ _ c.meet-f.ensures.1, c.well-formed)
 
 pub shape_of-memory-then-f-ne-DONE : goal.shape_of-memory-then-f-ne-DONE
-shape_of-memory-then-f-ne-DONE c = c.meet-f.auto.1.1.1.0 ∙ c.loop-at.invariant.0
+shape_of-memory-then-f-ne-DONE c = c.meet-f.auto.memory ∙ c.loop-at.invariant.0
 
 pub shape_of-serial-then-f-ne-DONE : goal.shape_of-serial-then-f-ne-DONE
-shape_of-serial-then-f-ne-DONE c = c.meet-f.auto.1.1.1.1.0 ∙ c.loop-at.invariant.1
+shape_of-serial-then-f-ne-DONE c = c.meet-f.auto.serial ∙ c.loop-at.invariant.1
 
 pub returns-then-f-ne-DONE : goal.returns-then-f-ne-DONE
 unfolding limit

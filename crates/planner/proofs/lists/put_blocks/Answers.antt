@@ -35,6 +35,6 @@ returns c =
     stored_done (load_bytes a.colour ++ b) (1 + a.height * a.n) a.list.now _ _ _
     (omega (arith, l, e)) (ap (λ (x : ℕ). 1 + x) e) (omega (arith, l, e))
     (w.put_block_rows.ensures
-    ∙ ap₂ (λ (x y : ℕ). sets d.put_load.new.0 6 (block_rows a.block x y a.mask a.n a.row a.height)) q.columns_of-first.ensures q.columns_of-last.ensures
+    ∙ ap₂ (λ (x y : ℕ). sets d.put_load.new.list 6 (block_rows a.block x y a.mask a.n a.row a.height)) q.columns_of-first.ensures q.columns_of-last.ensures
     ∙ ap (λ (t : List ℕ). sets t 6 b) d.put_load.ensures
     ∙ sets_append (load_bytes a.colour) b a.list.now 0)

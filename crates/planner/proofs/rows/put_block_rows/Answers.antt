@@ -44,7 +44,7 @@ loop-i-preserved c =
     let w = c in
     let k = w.loop-i in
     let a = w.args in
-    let f : w.put_block_row.new.0 ≡ sets a.list.now 6 (block_rows a.block a.first a.last a.mask a.n a.row (k.i + 1)) =
+    let f : w.put_block_row.new.list ≡ sets a.list.now 6 (block_rows a.block a.first a.last a.mask a.n a.row (k.i + 1)) =
     w.put_block_row.ensures
     ∙ ap₂ (λ (l : List ℕ) (o : ℕ). sets l o (block_row a.block a.first a.last a.mask a.n (a.row + k.i))) k.invariant.3 k.invariant.1
     ∙ block_rows_more a.block a.first a.last a.mask a.n a.list.now a.row k.i in

@@ -47,7 +47,7 @@ loop-i-preserved c =
     let w = c in
     let k = w.loop-i in
     let a = w.args in
-    let f : w.put_row.new.0 ≡ sets a.list.now 0 (word_rows a.column a.width a.colour a.mask a.row (k.i + 1)) =
+    let f : w.put_row.new.list ≡ sets a.list.now 0 (word_rows a.column a.width a.colour a.mask a.row (k.i + 1)) =
     w.put_row.ensures
     ∙ ap₂ (λ (l : List ℕ) (o : ℕ). sets l o (row_bytes 1 w.place_of.result 1 a.colour a.mask a.width)) k.invariant.3 k.invariant.1
     ∙ ap (λ (p : ℕ). sets (sets a.list.now 0 (word_rows a.column a.width a.colour a.mask a.row k.i)) (k.i * (13 * a.width)) (row_bytes 1 p 1 a.colour a.mask a.width)) w.place_of.ensures.0
