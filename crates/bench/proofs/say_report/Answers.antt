@@ -7,7 +7,7 @@ use Rattle.report.specs.ReportLaws.{told_within}
 use Rattle.bench.proofs.say_report.Goals as goal
 
 pub slice_bounds-text-end : goal.slice_bounds-text-end
-slice_bounds-text-end c = let r = c.report-told in omega (arith, told_within _ _ _ _ r.ensures, r.auto.1)
+slice_bounds-text-end c = let r = c.report-told in omega (arith, told_within _ _ _ _ r.ensures, r.auto.text)
 
 pub slice_bounds-say-end : goal.slice_bounds-say-end
-slice_bounds-say-end c = let r = c.report-told in sym (simp length-take (omega (arith, told_within _ _ _ _ r.ensures, r.auto.1)))
+slice_bounds-say-end c = let r = c.report-told in sym (simp length-take (omega (arith, told_within _ _ _ _ r.ensures, r.auto.text)))

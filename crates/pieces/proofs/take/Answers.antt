@@ -24,5 +24,5 @@ pub returns : goal.returns
 unfolding first_number
 returns c =
     let f = c.take_all-f in
-    ap (λ (r : Taken). outcome r f.new.1.1.0 f.new.1.1.1.0) c.so_far.ensures
+    ap (λ (r : Taken). outcome r f.new.memory f.new.serial) c.so_far.ensures
     ∙ take_done _ _ _ c.first_number-n.ensures.0 c.if-n-ne-DONE.false _ _ _ f.ensures

@@ -10,7 +10,7 @@ pub returns-then-both_lawful : goal.returns-then-both_lawful
 returns-then-both_lawful c =
     let e = sym c.both_lawful.ensures ∙ c.if-both_lawful.true in
     let t = c.take-taken in
-    take_done _ _ _ _ e _ c.take.ensures _ c.take_line.ensures t.result t.new.1.1.0 t.new.1.1.1.0 _ c.hand_taken.ensures _
+    take_done _ _ _ _ e _ c.take.ensures _ c.take_line.ensures t.result t.new.memory t.new.serial _ c.hand_taken.ensures _
     t.ensures
 
 pub returns : goal.returns

@@ -16,7 +16,7 @@ overflow_sub-end_row c =
     let a = b.args in
     let f = fill a.rows a.first_row a.end_row a.first_column a.end_column a.mask a.colour a.persistent in
     let s = says_any a.rows a.first_row a.end_row a.first_column a.end_column a.mask a.colour a.persistent _ _ m.shape_of-shape.ensures c.in-Blocks.is in
-    (asked_sound f s.0).row-order
+    (asked_sound f s.0).row_order
 
 pub across-requires : goal.across-requires
 across-requires c =
@@ -45,7 +45,7 @@ overflow_sub-end_row-in-Words c =
     let a = b.args in
     let f = fill a.rows a.first_row a.end_row a.first_column a.end_column a.mask a.colour a.persistent in
     let s = says_any a.rows a.first_row a.end_row a.first_column a.end_column a.mask a.colour a.persistent _ _ m.shape_of-shape.ensures c.in-Words.is in
-    (asked_sound f s.0).row-order
+    (asked_sound f s.0).row_order
 
 pub overflow_sub-end_column : goal.overflow_sub-end_column
 overflow_sub-end_column c =
@@ -54,7 +54,7 @@ overflow_sub-end_column c =
     let a = b.args in
     let f = fill a.rows a.first_row a.end_row a.first_column a.end_column a.mask a.colour a.persistent in
     let s = says_any a.rows a.first_row a.end_row a.first_column a.end_column a.mask a.colour a.persistent _ _ m.shape_of-shape.ensures c.in-Words.is in
-    (asked_sound f s.0).column-order
+    (asked_sound f s.0).column_order
 
 pub put_words-requires : goal.put_words-requires
 put_words-requires c =
@@ -73,8 +73,8 @@ returns-in-Refused c =
     let a = b.args in
     let f = fill a.rows a.first_row a.end_row a.first_column a.end_column a.mask a.colour a.persistent in
     let s = says_any a.rows a.first_row a.end_row a.first_column a.end_column a.mask a.colour a.persistent _ _ m.shape_of-shape.ensures c.in-Refused.is in
-    with_demand f a.list.now b.ranges.mask.fits b.ranges.colour.fits
-    (fill_refuses f a.list.now _ s.0 s.1)
+    let d = with_demand f a.list.now b.ranges.mask.fits b.ranges.colour.fits (fill_refuses f a.list.now _ s.0 s.1) in
+    record { outcome = d.0; demand = d.1 }
 
 pub returns-in-Nothing : goal.returns-in-Nothing
 returns-in-Nothing c =
@@ -83,8 +83,8 @@ returns-in-Nothing c =
     let a = b.args in
     let f = fill a.rows a.first_row a.end_row a.first_column a.end_column a.mask a.colour a.persistent in
     let s = says_any a.rows a.first_row a.end_row a.first_column a.end_column a.mask a.colour a.persistent _ _ m.shape_of-shape.ensures c.in-Nothing.is in
-    with_demand f a.list.now b.ranges.mask.fits b.ranges.colour.fits
-    (fill_nothing f a.list.now s.0 s.1)
+    let d = with_demand f a.list.now b.ranges.mask.fits b.ranges.colour.fits (fill_nothing f a.list.now s.0 s.1) in
+    record { outcome = d.0; demand = d.1 }
 
 pub returns-in-Blocks : goal.returns-in-Blocks
 returns-in-Blocks c =
@@ -93,8 +93,8 @@ returns-in-Blocks c =
     let a = b.args in
     let f = fill a.rows a.first_row a.end_row a.first_column a.end_column a.mask a.colour a.persistent in
     let s = says_any a.rows a.first_row a.end_row a.first_column a.end_column a.mask a.colour a.persistent _ _ m.shape_of-shape.ensures c.in-Blocks.is in
-    with_demand f a.list.now b.ranges.mask.fits b.ranges.colour.fits
-    (c.put_blocks.ensures ∙ fill_blocks f a.list.now s.0 s.1 s.3 _ c.across.ensures.0)
+    let d = with_demand f a.list.now b.ranges.mask.fits b.ranges.colour.fits (c.put_blocks.ensures ∙ fill_blocks f a.list.now s.0 s.1 s.3 _ c.across.ensures.0) in
+    record { outcome = d.0; demand = d.1 }
 
 pub returns-in-Words : goal.returns-in-Words
 returns-in-Words c =
@@ -103,5 +103,5 @@ returns-in-Words c =
     let a = b.args in
     let f = fill a.rows a.first_row a.end_row a.first_column a.end_column a.mask a.colour a.persistent in
     let s = says_any a.rows a.first_row a.end_row a.first_column a.end_column a.mask a.colour a.persistent _ _ m.shape_of-shape.ensures c.in-Words.is in
-    with_demand f a.list.now b.ranges.mask.fits b.ranges.colour.fits
-    (c.put_words.ensures ∙ fill_words f a.list.now s.0 s.1 s.3)
+    let d = with_demand f a.list.now b.ranges.mask.fits b.ranges.colour.fits (c.put_words.ensures ∙ fill_words f a.list.now s.0 s.1 s.3) in
+    record { outcome = d.0; demand = d.1 }

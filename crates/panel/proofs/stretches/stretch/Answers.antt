@@ -44,7 +44,7 @@ returns c =
     let a = s.args in
     let here = d.clocks-here.result.state in
     let t = there a.state a.done a.clocks d.clocks-here.result d.clocks-here.ensures s.requires.4 s.requires.0 in
-    let p : here.pointer < 256 = omega (arith, k.struct_known.given) in
+    let p : here.pointer < 256 = omega arith in
     let q = through_within here p in (
       omega (arith, m.least-count.ensures, t.1, q.0),
       omega (arith, m.least-count.ensures),

@@ -10,13 +10,13 @@ returns-then-answer-ne-DONE c =
     let h = c in
     let o = c in
     rw c.left_by-then-answer-ne-DONE.ensures
-    (meets_refused _ _ _ _ c.requires h.head.given.0.0 h.head.given.0.1.0 (sym o.head_of-head.ensures ∙ h.in-Whole.is) _ k.cycle-answer.ensures
+    (meets_refused _ _ _ _ c.requires c.in-Whole.cycle c.in-Whole.size (sym o.head_of-head.ensures ∙ h.in-Whole.is) _ k.cycle-answer.ensures
     c.if-answer-ne-DONE.true)
 
 pub bounds-bytes-0 : goal.bounds-bytes-0
 bounds-bytes-0 c =
     let h = c in
-    whole_some _ h.head.given.0.0 h.head.given.0.1.0 (sym c.head_of-head.ensures ∙ h.in-Whole.is)
+    whole_some _ c.in-Whole.cycle c.in-Whole.size (sym c.head_of-head.ensures ∙ h.in-Whole.is)
 
 pub returns-in-Waits : goal.returns-in-Waits
 returns-in-Waits c = rw c.left_by.ensures (meets_waits _ _ _ _ c.requires (sym c.head_of-head.ensures ∙ c.in-Waits.is))
@@ -30,5 +30,5 @@ returns-else-answer-ne-DONE c =
     let h = c in
     let o = c in
     rw c.left_by-in-Whole.ensures
-    (meets_run _ _ _ _ c.requires h.head.given.0.0 h.head.given.0.1.0 (sym o.head_of-head.ensures ∙ h.in-Whole.is) _ k.cycle-answer.ensures
+    (meets_run _ _ _ _ c.requires c.in-Whole.cycle c.in-Whole.size (sym o.head_of-head.ensures ∙ h.in-Whole.is) _ k.cycle-answer.ensures
     c.if-answer-ne-DONE.false _ c.opens-opened.ensures)

@@ -17,7 +17,7 @@ pub feed-m-requires : goal.feed-m-requires
 feed-m-requires c = let a = c.at_once-f.ensures in (a.sound, a.given)
 
 pub overflow_add-result : goal.overflow_add-result
-overflow_add-result c = omega (arith, c.if-rest-used.false, c.well-formed)
+overflow_add-result c = omega (arith, c.if-rest-used.false, c.well_formed)
 
 pub returns : goal.returns
 returns c =

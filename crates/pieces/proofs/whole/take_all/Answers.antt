@@ -30,7 +30,7 @@ overflow_add-used c =
     let l = c.loop-used in
     let t = c.args.bytes.now in
     let o = along_on _ _ t _ _ l.used l.invariant.2 _ (tail_part t l.used) _ _ _ c.advance-f.ensures.0 in
-    omega (arith, o.inside, c.well-formed)
+    omega (arith, o.inside, c.well_formed)
 
 pub loop-used-smaller : goal.loop-used-smaller
 loop-used-smaller c =
@@ -45,8 +45,8 @@ loop-used-preserved c =
     let l = c.loop-used in
     let t = c.args.bytes.now in
     let f = c.advance-f in (
-      f.auto.1.1.0 ∙ l.invariant.0,
-      f.auto.1.1.1.0 ∙ l.invariant.1,
+      f.auto.memory ∙ l.invariant.0,
+      f.auto.serial ∙ l.invariant.1,
       along_on _ _ t _ _ l.used l.invariant.2 _ (tail_part t l.used) _ _ _ f.ensures.0,
     )
 

@@ -59,7 +59,7 @@ returns-then-f c =
     (stay_possible t l.used _ part l.invariant.2 l.at l.opened _ l.invariant.3 _ _ _ _ m.1 w)
     m.1.given l.invariant.2
     (stay_same t l.used _ part l.invariant.2 l.at l.opened _ l.invariant.3 _ _ _ _ m.1 w ∙ l.invariant.5)
-    e.0 (ap (λ (s : Vram). board s f.new.1.1.1.0 f.new.1.1.1.1.0) e.1) e.2
+    e.0 (ap (λ (s : Vram). board s f.new.memory f.new.serial) e.1) e.2
 
 pub overflow_cast-at : goal.overflow_cast-at
 overflow_cast-at c = omega (arith, c.meet-f.ensures.1.most)
@@ -72,7 +72,7 @@ overflow_add-used c =
     let l = c.loop-at in
     let t = c.args.bytes.now in
     omega
-    (arith, turn_inside t l.used _ (tail_part t l.used) l.invariant.2 l.at l.opened _ l.invariant.3 _ _ _ _ c.meet-f.ensures.1, c.well-formed)
+    (arith, turn_inside t l.used _ (tail_part t l.used) l.invariant.2 l.at l.opened _ l.invariant.3 _ _ _ _ c.meet-f.ensures.1, c.well_formed)
 
 pub shape_of-memory-then-f-ne-DONE : goal.shape_of-memory-then-f-ne-DONE
 shape_of-memory-then-f-ne-DONE c = c.meet-f.auto.memory ∙ c.loop-at.invariant.0
@@ -95,7 +95,7 @@ returns-then-f-ne-DONE c =
     (turn_possible t l.used _ part l.invariant.2 l.at l.opened _ l.invariant.3 _ _ _ _ m.1 w (omega (arith, near)))
     m.1.given (turn_inside t l.used _ part l.invariant.2 l.at l.opened _ l.invariant.3 _ _ _ _ m.1)
     (turn_same t l.used _ part l.invariant.2 l.at l.opened _ l.invariant.3 _ _ _ _ m.1 w (omega (arith, near)) ∙ l.invariant.5)
-    e.0 (ap (λ (s : Vram). board s f.new.1.1.1.0 f.new.1.1.1.1.0) e.1) e.2
+    e.0 (ap (λ (s : Vram). board s f.new.memory f.new.serial) e.1) e.2
 
 pub loop-at-smaller : goal.loop-at-smaller
 unfolding limit
@@ -120,8 +120,8 @@ loop-at-preserved c =
     let part = tail_part t l.used in
     let near = c.if-at-gt-SAFE.false in
     let o = turn_again t l.used _ part l.invariant.2 l.at l.opened _ l.invariant.3 _ _ _ _ m.1 w (omega (arith, near)) c.if-f-ne-DONE.false in (
-      f.auto.1.1.1.0 ∙ l.invariant.0,
-      f.auto.1.1.1.1.0 ∙ l.invariant.1,
+      f.auto.memory ∙ l.invariant.0,
+      f.auto.serial ∙ l.invariant.1,
       turn_inside t l.used _ part l.invariant.2 l.at l.opened _ l.invariant.3 _ _ _ _ m.1,
       o.0,
       m.1.given,

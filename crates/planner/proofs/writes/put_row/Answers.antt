@@ -37,7 +37,7 @@ loop-i-preserved c =
     let k = c.loop-i in
     let a = c.args in
     let e : a.step * (k.i + 1) ≡ a.step * k.i + a.step = mul-add a.step k.i 1 ∙ ap (λ (x : ℕ). a.step * k.i + x) (mul-one a.step) in
-    let f : w.new.0 ≡ sets a.list.now a.at (row_bytes a.tag a.first a.step a.value a.mask (k.i + 1)) =
+    let f : w.new.list ≡ sets a.list.now a.at (row_bytes a.tag a.first a.step a.value a.mask (k.i + 1)) =
     w.ensures
     ∙ ap₂ (λ (l : List ℕ) (o : ℕ). sets l o (write_at a.tag k.place a.value a.mask)) k.invariant.5 k.invariant.1
     ∙ ap (λ (p : ℕ). sets (sets a.list.now a.at (row_bytes a.tag a.first a.step a.value a.mask k.i)) (a.at + k.i * 13) (write_at a.tag p a.value a.mask)) k.invariant.3
