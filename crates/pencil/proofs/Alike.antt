@@ -13,20 +13,20 @@ use Rattle.pencil.specs.contracts.run_marked as pencil_run_marked
 
 -- the contracts of `list::run` and of `pencil::run`
 abbrev pub fast : Contract list_run.signature
-fast M = list_run.clauses
+fast M 𝓤 = list_run.clauses {M = M} {𝓤 = 𝓤}
 
 abbrev pub plain : Contract list_run.signature
-plain M = pencil_run.clauses
+plain M 𝓤 = pencil_run.clauses {M = M} {𝓤 = 𝓤}
 
 pub run_alike : plain ≡ fast
 run_alike = same_contract list_run.signature {c = plain} {d = fast} refl refl (λ κs a. calls_same pencil_effect _ _)
 
 -- those of `marks::run` and of `pencil::run_marked`
 abbrev pub fast_marked : Contract marks_run.signature
-fast_marked M = marks_run.clauses
+fast_marked M 𝓤 = marks_run.clauses {M = M} {𝓤 = 𝓤}
 
 abbrev pub plain_marked : Contract marks_run.signature
-plain_marked M = pencil_run_marked.clauses
+plain_marked M 𝓤 = pencil_run_marked.clauses {M = M} {𝓤 = 𝓤}
 
 pub run_marked_alike : plain_marked ≡ fast_marked
 run_marked_alike = same_contract marks_run.signature {c = plain_marked} {d = fast_marked} refl refl (λ κs a. marked_same pencil_effect _ _ _)

@@ -11,20 +11,20 @@ use Rattle.host.specs.contracts.linkshoar_list_run as list_run
 
 -- the contracts of `linkshoar_list_run` and of `linkshoar_pencil_run`
 abbrev pub fast : Contract list_run.signature
-fast M = list_run.clauses
+fast M 𝓤 = list_run.clauses {M = M} {𝓤 = 𝓤}
 
 abbrev pub plain : Contract list_run.signature
-plain M = pencil_run.clauses
+plain M 𝓤 = pencil_run.clauses {M = M} {𝓤 = 𝓤}
 
 pub pencil_run_alike : plain ≡ fast
 pencil_run_alike = same_contract list_run.signature {c = plain} {d = fast} refl refl (λ κs a. (exports_same _ _ _ [] _).0)
 
 -- those of `linkshoar_list_run_marked` and of `linkshoar_pencil_run_marked`
 abbrev pub fast_marked : Contract list_run_marked.signature
-fast_marked M = list_run_marked.clauses
+fast_marked M 𝓤 = list_run_marked.clauses {M = M} {𝓤 = 𝓤}
 
 abbrev pub plain_marked : Contract list_run_marked.signature
-plain_marked M = pencil_run_marked.clauses
+plain_marked M 𝓤 = pencil_run_marked.clauses {M = M} {𝓤 = 𝓤}
 
 pub pencil_run_marked_alike : plain_marked ≡ fast_marked
 pencil_run_marked_alike =

@@ -16,19 +16,19 @@ pub slice_bounds-rest-count : goal.slice_bounds-rest-count
 slice_bounds-rest-count c =
     let h = c in
     let o = h in
-    (field_fits o.loop-cycle.rest.now o.head_of-head.result o.head_of-head.ensures h.head.given.0.0 h.head.given.0.1.0 h.in-Whole.is).1
+    (field_fits o.loop-cycle.rest.now o.head_of-head.result o.head_of-head.ensures c.in-Whole.cycle c.in-Whole.size h.in-Whole.is).1
 
 pub slice_bounds-rest-start : goal.slice_bounds-rest-start
 slice_bounds-rest-start c =
     let h = c in
     let o = h in
-    (field_fits o.loop-cycle.rest.now o.head_of-head.result o.head_of-head.ensures h.head.given.0.0 h.head.given.0.1.0 h.in-Whole.is).1
+    (field_fits o.loop-cycle.rest.now o.head_of-head.result o.head_of-head.ensures c.in-Whole.cycle c.in-Whole.size h.in-Whole.is).1
 
 pub loop-cycle-smaller : goal.loop-cycle-smaller
 loop-cycle-smaller c =
     let h = c in
     let o = h in
-    rest_less o.loop-cycle.rest.now o.head_of-head.result o.head_of-head.ensures h.head.given.0.0 h.head.given.0.1.0 h.in-Whole.is
+    rest_less o.loop-cycle.rest.now o.head_of-head.result o.head_of-head.ensures c.in-Whole.cycle c.in-Whole.size h.in-Whole.is
 
 pub loop-cycle-preserved : goal.loop-cycle-preserved
 loop-cycle-preserved c =
@@ -38,7 +38,7 @@ loop-cycle-preserved c =
     let l = o.loop-cycle in (
       k.step-current.auto.memory ∙ l.invariant.0,
       k.step-current.auto.serial ∙ l.invariant.1,
-      turn_run l.rest.now o.head_of-head.result o.head_of-head.ensures h.head.given.0.0 h.head.given.0.1.0 h.in-Whole.is _ _ k.step-current.ensures
+      turn_run l.rest.now o.head_of-head.result o.head_of-head.ensures c.in-Whole.cycle c.in-Whole.size h.in-Whole.is _ _ k.step-current.ensures
           ∙ l.invariant.2,
     )
 
