@@ -18,5 +18,5 @@ returns-in-Row c =
     let f = c in
     let n = f in
     let a = n.args in
-    let r = f.found.given.0.0 in
+    let r = c.in-Row.row in
     next_handed a.marks.now a.start n.next-next.result n.next-next.ensures (Row r) f.in-Row.is (values 0 1 r) (sym (values_row r))

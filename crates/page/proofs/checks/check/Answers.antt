@@ -1,6 +1,5 @@
 -- `page::checks::check` meets its contract. Assumes nothing.
 use mathlib.Core.Path.{◌≡◌, ap, sym, ◌∙◌}
-use mathlib.Core.Logic.{⊎_elim}
 use Prim.Native.Nat.{ℕ, ◌≤◌, ◌-◌}
 use native.Mathlib.Omega.{arith}
 use lib.ListN.{length}
@@ -11,6 +10,7 @@ use Rattle.page.specs.Calls.{judged}
 use Rattle.page.proofs.Turns.{rest_less, rest_within, end_check, turn_bad, turn_fits, turn_good}
 use borrow.Author.Rules.{rules}
 use Rattle.page.proofs.checks.check.Goals as goal
+use Rattle.page.proofs.checks.check.Goals.{then-rest-eq0, else-rest-eq0+then-n-ne-DONE}
 
 pub loop-rest-init : goal.loop-rest-init
 loop-rest-init c =
@@ -57,22 +57,21 @@ loop-rest-preserved c =
 
 pub returns-then-bad-ne-DONE : goal.returns-then-bad-ne-DONE
 returns-then-bad-ne-DONE c =
-    let j = c in
-    let l = j.loop-rest in
-    let p = j.requires in
-    ⊎_elim
-    (λ x. absurd (c.if-bad-ne-DONE.true (ap (λ (v : Bad). v.number) x.1)))
-    (λ y. y.3 ∙ turn_bad _ p.0 p.1 _ l.left l.rest.now y.1.result y.1.ensures y.0.left y.2.taken _ ∙ l.invariant.1)
-    j.if-rest-eq0.branch
+    let l = c.loop-rest in
+    let p = c.requires in
+    elim c.if-rest-eq0.branch [
+      then-rest-eq0 x ↦ absurd (c.if-bad-ne-DONE.true (ap (λ (v : Bad). v.number) x.bad-is))
+      | else-rest-eq0+then-n-ne-DONE y ↦
+          y.bad-is
+          ∙ turn_bad _ p.0 p.1 _ l.left l.rest.now y.measure_field-fill.result y.measure_field-fill.ensures y.if-rest-eq0.false y.if-n-ne-DONE.true _
+          ∙ l.invariant.1
+    ]
 
 pub returns : goal.returns
 returns c =
-    let r = c in
-    let e = r in
-    let j = e in
-    let l = j.loop-rest in
-    let p = j.requires in
-    ⊎_elim
-    (λ x. rw (c.refuse.ensures, r.room_number.ensures) (end_check _ p.0 p.1 _ l.left l.rest.now x.0.taken _ ∙ l.invariant.1))
-    (λ y. absurd (y.2.taken (sym (ap (λ (v : Bad). v.number) y.3) ∙ e.if-bad-ne-DONE.false)))
-    j.if-rest-eq0.branch
+    let l = c.loop-rest in
+    let p = c.requires in
+    elim c.if-rest-eq0.branch [
+      then-rest-eq0 x ↦ rw (c.refuse.ensures, c.room_number.ensures) (end_check _ p.0 p.1 _ l.left l.rest.now x.if-rest-eq0.true _ ∙ l.invariant.1)
+      | else-rest-eq0+then-n-ne-DONE y ↦ absurd (y.if-n-ne-DONE.true (sym (ap (λ (v : Bad). v.number) y.bad-is) ∙ c.if-bad-ne-DONE.false))
+    ]
