@@ -1,7 +1,7 @@
 // Where a list stands, there and back.
 ghost use Rattle.std.specs.Prelude.{◌≡◌, ◌&&◌};
 ghost use Rattle.registers.specs.State.{lawful};
-ghost use Rattle.pieces_c.specs.Line.{line_lawful, taken_line, handed_line, handed_taken, excluded_taken};
+ghost use Rattle.pieces_c.specs.Line.{line_lawful, taken_line, handed_line, handed_below_taken, excluded_taken};
 
 use crate::{Pieces, Taken};
 use list::Open;
@@ -73,7 +73,7 @@ pub(crate) fn hand_line(line: pieces::Pieces) -> Pieces
 
 // The answer of a piece and of the last call.
 pub(crate) fn hand_taken(taken: pieces::Taken) -> Taken
-    ensures { result ≡ handed_taken taken }
+    ensures { result ≡ handed_below_taken taken }
 {
     let state = taken.state;
     let line = taken.pieces;
