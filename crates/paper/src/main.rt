@@ -7,6 +7,8 @@ use list::Ran;
 use pencil::bits::{has, let_through, strobed};
 use pencil::block::bits_left;
 use pencil::word::{in_force, write_bits};
+use std::io;
+use std::io::Write;
 use vram::Vram;
 
 // The block write: masked, with a mask of 0 given, which is idle while the mask register is persistent.
@@ -56,12 +58,12 @@ struct Column {
     after: u16,
 }
 
-fn say(text: &[u8]) {
-    io::write_all(libc::STDOUT_FILENO, text);
+fn say(rt: &impl Print, text: &[u8]) -> io::Result<()> {
+    io::writer(rt).write_all(text)
 }
 
-fn say_number(n: usize) {
-    io::print_decimal(libc::STDOUT_FILENO, n as u64);
+fn say_number(rt: &impl Print, n: usize) -> io::Result<()> {
+    print!(rt; "{n}")
 }
 
 // A digit, 0 to 9 and then A to F.
@@ -70,34 +72,34 @@ fn digit(d: u8) -> u8 {
     if d < 10 { 48 + d } else { 55 + d }
 }
 
-fn say_byte(byte: u8) {
-    say(&[digit(byte / 16), digit(byte % 16)]);
+fn say_byte(rt: &impl Print, byte: u8) -> io::Result<()> {
+    say(rt, &[digit(byte / 16), digit(byte % 16)])
 }
 
-fn say_word(word: u16) {
-    say_byte((word / 256) as u8);
-    say_byte((word % 256) as u8);
+fn say_word(rt: &impl Print, word: u16) -> io::Result<()> {
+    say_byte(rt, (word / 256) as u8)?;
+    say_byte(rt, (word % 256) as u8)
 }
 
 // A number below 100, three places wide.
-fn say_place(n: u16) {
+fn say_place(rt: &impl Print, n: u16) -> io::Result<()> {
     let n = (n % 100) as u8;
     let tens = if n < 10 { b' ' } else { 48 + n / 10 };
-    say(&[b' ', tens, 48 + n % 10]);
+    say(rt, &[b' ', tens, 48 + n % 10])
 }
 
-fn say_name(row: Row) {
+fn say_name(rt: &impl Print, row: Row) -> io::Result<()> {
     match row {
-        Row::Bit => say(b"bit               "),
-        Row::Quad => say(b"its quad          "),
-        Row::ColumnBit => say(b"column mask's bit "),
-        Row::LetThrough => say(b"  is set          "),
-        Row::InForce => say(b"mask in force     "),
-        Row::Left => say(b"left              "),
-        Row::Strobe => say(b"strobe covers     "),
-        Row::Colour => say(b"colour            "),
-        Row::Before => say(b"before            "),
-        Row::After => say(b"after             "),
+        Row::Bit => say(rt, b"bit               "),
+        Row::Quad => say(rt, b"its quad          "),
+        Row::ColumnBit => say(rt, b"column mask's bit "),
+        Row::LetThrough => say(rt, b"  is set          "),
+        Row::InForce => say(rt, b"mask in force     "),
+        Row::Left => say(rt, b"left              "),
+        Row::Strobe => say(rt, b"strobe covers     "),
+        Row::Colour => say(rt, b"colour            "),
+        Row::Before => say(rt, b"before            "),
+        Row::After => say(rt, b"after             "),
     }
 }
 
@@ -118,18 +120,16 @@ fn entry(row: Row, column: Column, b: u16) -> u16 {
 }
 
 // Sixteen places, bit 15 first.
-fn say_row(row: Row, column: Column) {
-    say_name(row);
-    let mut b: u16 = 16;
-    while 0 < b {
-        b -= 1;
-        say_place(entry(row, column, b));
+fn say_row(rt: &impl Print, row: Row, column: Column) -> io::Result<()> {
+    say_name(rt, row)?;
+    for b in (0..16).rev() {
+        say_place(rt, entry(row, column, b))?;
     }
-    say(b"\n");
+    say(rt, b"\n")
 }
 
 // The working of column j of the block.
-fn say_column(j: u16, before: u16) {
+fn say_column(rt: &impl Print, j: u16, before: u16) -> io::Result<()> {
     let force = in_force(MASKING, true, MASK, GIVEN);
     let left = bits_left(COLUMNS, j, force);
     let after = write_bits(before, COLOUR, left, STROBES);
@@ -140,51 +140,49 @@ fn say_column(j: u16, before: u16) {
         before,
         after,
     };
-    say(b"\ncolumn ");
-    say_number(j as usize);
-    say(b" of the block\n");
-    say_row(Row::Bit, column);
-    say_row(Row::Quad, column);
-    say_row(Row::ColumnBit, column);
-    say_row(Row::LetThrough, column);
-    say_row(Row::InForce, column);
-    say_row(Row::Left, column);
-    say_row(Row::Strobe, column);
-    say_row(Row::Colour, column);
-    say_row(Row::Before, column);
-    say_row(Row::After, column);
-    say_word(before);
-    say(b" becomes ");
-    say_word(after);
-    say(b"\n");
+    say(rt, b"\ncolumn ")?;
+    say_number(rt, j as usize)?;
+    say(rt, b" of the block\n")?;
+    say_row(rt, Row::Bit, column)?;
+    say_row(rt, Row::Quad, column)?;
+    say_row(rt, Row::ColumnBit, column)?;
+    say_row(rt, Row::LetThrough, column)?;
+    say_row(rt, Row::InForce, column)?;
+    say_row(rt, Row::Left, column)?;
+    say_row(rt, Row::Strobe, column)?;
+    say_row(rt, Row::Colour, column)?;
+    say_row(rt, Row::Before, column)?;
+    say_row(rt, Row::After, column)?;
+    say_word(rt, before)?;
+    say(rt, b" becomes ")?;
+    say_word(rt, after)?;
+    say(rt, b"\n")
 }
 
-fn say_list(list: &[u8]) {
-    say(b"list");
-    let mut i = 0;
-    while i < list.len() {
-        say(b" ");
-        say_byte(list[i]);
-        i += 1;
+fn say_list(rt: &impl Print, list: &[u8]) -> io::Result<()> {
+    say(rt, b"list")?;
+    for byte in list {
+        say(rt, b" ")?;
+        say_byte(rt, *byte)?;
     }
-    say(b"\n");
+    say(rt, b"\n")
 }
 
 // What an engine answers, and the block's words afterwards.
-fn say_ran(engine: &[u8], ran: Ran, words: [u16; 4]) {
-    say(engine);
-    say(b" engine: number ");
-    say_number(ran.number as usize);
-    say(b", the four words");
-    say(b" ");
-    say_word(words[0]);
-    say(b" ");
-    say_word(words[1]);
-    say(b" ");
-    say_word(words[2]);
-    say(b" ");
-    say_word(words[3]);
-    say(b"\n");
+fn say_ran(rt: &impl Print, engine: &[u8], ran: Ran, words: [u16; 4]) -> io::Result<()> {
+    say(rt, engine)?;
+    say(rt, b" engine: number ")?;
+    say_number(rt, ran.number as usize)?;
+    say(rt, b", the four words")?;
+    say(rt, b" ")?;
+    say_word(rt, words[0])?;
+    say(rt, b" ")?;
+    say_word(rt, words[1])?;
+    say(rt, b" ")?;
+    say_word(rt, words[2])?;
+    say(rt, b" ")?;
+    say_word(rt, words[3])?;
+    say(rt, b"\n")
 }
 
 // Four rows of zeros with the block's words.
@@ -206,24 +204,24 @@ fn block_of(memory: [u16; 2048]) -> [u16; 4] {
     ]
 }
 
-fn main() {
+fn main(rt: HostRuntime) -> io::Result<()> {
     // A colour load, a mask load, the block write, a reset refresh.
     let list =
         *b"\x03\0\x03\xE3\x5D\x03\x04\0\x03\xFF\xF7\x03\x02\0\x0A\0\x03\0\x06\xFF\x96\x01\0\0\x01\x05\0\0";
-    say_list(&list);
-    say(b"first word ");
-    say_number(BASE);
-    say(b"\n");
-    say_column(0, BEFORE[0]);
-    say_column(1, BEFORE[1]);
-    say_column(2, BEFORE[2]);
-    say_column(3, BEFORE[3]);
-    say(b"\n");
+    say_list(&rt, &list)?;
+    say(&rt, b"first word ")?;
+    say_number(&rt, BASE)?;
+    say(&rt, b"\n")?;
+    say_column(&rt, 0, BEFORE[0])?;
+    say_column(&rt, 1, BEFORE[1])?;
+    say_column(&rt, 2, BEFORE[2])?;
+    say_column(&rt, 3, BEFORE[3])?;
+    say(&rt, b"\n")?;
     let mut serial = [0u16; 256];
     let mut memory = fitted();
     let ran = pencil::run(Vram::fresh(), &mut memory, &mut serial, &list);
-    say_ran(b"plain", ran, block_of(memory));
+    say_ran(&rt, b"plain", ran, block_of(memory))?;
     let mut memory = fitted();
     let ran = list::run(Vram::fresh(), &mut memory, &mut serial, &list);
-    say_ran(b"fast", ran, block_of(memory));
+    say_ran(&rt, b"fast", ran, block_of(memory))
 }

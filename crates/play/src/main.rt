@@ -1,54 +1,27 @@
 // Runs a list from standard input on 64 rows of zeros and a fresh state, and prints what came: document 01, "The program `play`". The text
 // is `report`'s. At most 4,097 bytes are read, reading on after short reads: with so many the list is too long. Where a read fails
-// nothing is printed, since a list cut between two fields would look whole.
+// nothing is printed, since a list cut between two fields would look whole, and the program ends with the error.
 #![tactic(auto)]
 
-ghost use Rattle.std.specs.Prelude.{◌≡◌, ◌≤◌, length};
+ghost use Rattle.std.specs.Prelude.{◌≡◌, ◌≤◌, IfOk, length};
 
-// How many bytes came, or that a read failed.
-#[derive(Clone, Copy)]
-struct Taken {
-    bytes: usize,
-    failed: bool,
-}
-
-// One read, to the start of some room.
-fn take_some(room: &mut [u8]) -> Taken
-    ensures { result.bytes ≤ length room.old }
-{
-    let got = libc::read(libc::STDIN_FILENO, room);
-    if got < 0 {
-        return Taken {
-            bytes: 0,
-            failed: true,
-        };
-    }
-    let bytes = io::count(got, room);
-    Taken {
-        bytes,
-        failed: false,
-    }
-}
+use std::io;
+use std::io::{Read, Write};
 
 // Reads until the room is full, the input ends or a read fails.
-fn take_all(room: &mut [u8]) -> Taken
-    ensures { result.bytes ≤ length room.old }
+fn take_all(rt: &impl Input, room: &mut [u8]) -> io::Result<usize>
+    ensures { IfOk result (λ bytes. bytes ≤ length room.old) }
 {
+    let mut input = rt.reader();
     let mut at = 0;
     while at < room.len() {
-        let some = take_some(&mut room[at..]);
-        if some.failed {
-            return some;
-        }
-        if some.bytes == 0 {
+        let bytes = input.read(&mut room[at..])?;
+        if bytes == 0 {
             break;
         }
-        at += some.bytes;
+        at += bytes;
     }
-    Taken {
-        bytes: at,
-        failed: false,
-    }
+    Ok(at)
 }
 
 // Room for the longest text. Of its contents only the length is said.
@@ -58,15 +31,11 @@ fn empty_page() -> [u8; 491540]
     [0u8; 491540]
 }
 
-fn main() {
+fn main(rt: HostRuntime) -> io::Result<()> {
     let mut list = [0u8; 4097];
-    let taken = take_all(&mut list);
-    if taken.failed {
-        return;
-    }
-    let end = taken.bytes;
+    let end = take_all(&rt, &mut list)?;
     let mut text = empty_page();
     let told = report::report(&list[..end], &mut text);
     let bytes = told.bytes;
-    io::write_all(libc::STDOUT_FILENO, &text[..bytes]);
+    io::writer(&rt).write_all(&text[..bytes])
 }

@@ -1,13 +1,11 @@
--- `bench::say_report` meets its contract. Assumes nothing.
-use borrow.Author.Rules.{rules}
-use mathlib.Core.Path.{sym}
-use native.Mathlib.Omega.{arith}
-use lib.ListN.{length-take}
+-- `bench::say_report` meets its contract: what is printed lies within the text. Assumes nothing.
+use Rattle.std.proofs.Common.{sym, arith, length-take}
 use Rattle.report.specs.ReportLaws.{told_within}
 use Rattle.bench.proofs.say_report.Goals as goal
 
 pub slice_bounds-text-end : goal.slice_bounds-text-end
-slice_bounds-text-end c = let r = c.report-told in omega (arith, told_within _ _ _ _ r.ensures, r.auto.text)
+slice_bounds-text-end g c = let r = c.report-told in omega (arith, told_within _ _ _ _ r.ensures, r.auto.text)
 
 pub slice_bounds-say-end : goal.slice_bounds-say-end
-slice_bounds-say-end c = let r = c.report-told in sym (simp length-take (omega (arith, told_within _ _ _ _ r.ensures, r.auto.text)))
+slice_bounds-say-end g c =
+    let r = c.report-told in sym (simp length-take (omega (arith, told_within _ _ _ _ r.ensures, r.auto.text)))
