@@ -4,7 +4,7 @@
 #![tactic(auto)]
 
 ghost use Rattle.std.specs.Prelude.{◌≡◌};
-ghost use Rattle.vram.specs.State.{fresh as freshVram};
+ghost use Rattle.vram.specs.State.{fresh as fresh_vram};
 ghost use Rattle.vram.specs.Calls.{word_read_call};
 ghost use Rattle.palette.specs.State.{fresh as fresh_palette};
 ghost use Rattle.palette.specs.Calls.{outcome as accessedOutcome, write_call, read_call};
@@ -42,7 +42,7 @@ pub struct Clocked {
 // The registers at power-on.
 #[unsafe(no_mangle)]
 pub extern "C" fn linkshoar_vram_fresh() -> Registers
-    ensures { result ≡ handed freshVram }
+    ensures { result ≡ handed fresh_vram }
 {
     hand(Vram::fresh())
 }
