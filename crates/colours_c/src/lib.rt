@@ -70,16 +70,14 @@ pub struct Emitted {
 }
 
 // Nothing waits, and three outputs at blank level are on their way.
-#[unsafe(no_mangle)]
-pub extern "C" fn linkshoar_colours_fresh() -> Held
+pub fn linkshoar_colours_fresh() -> Held
     ensures { result ≡ handed fresh }
 {
     hand(Colours::fresh())
 }
 
 // A write of 16 bits.
-#[unsafe(no_mangle)]
-pub extern "C" fn linkshoar_colours_write(
+pub fn linkshoar_colours_write(
     state: Held,
     table: &mut [u16],
     address: u32,
@@ -94,8 +92,7 @@ pub extern "C" fn linkshoar_colours_write(
 }
 
 // The low eight bits of a word.
-#[unsafe(no_mangle)]
-pub extern "C" fn linkshoar_colours_write_low(state: Held, low: u8) -> Coloured
+pub fn linkshoar_colours_write_low(state: Held, low: u8) -> Coloured
     ensures { result ≡ held_low state low }
 {
     if lawful(state) {
@@ -105,8 +102,7 @@ pub extern "C" fn linkshoar_colours_write_low(state: Held, low: u8) -> Coloured
 }
 
 // The high five bits, with which the word is stored.
-#[unsafe(no_mangle)]
-pub extern "C" fn linkshoar_colours_write_high(
+pub fn linkshoar_colours_write_high(
     state: Held,
     table: &mut [u16],
     address: u32,
@@ -121,32 +117,28 @@ pub extern "C" fn linkshoar_colours_write_high(
 }
 
 // A read of 16 bits.
-#[unsafe(no_mangle)]
-pub extern "C" fn linkshoar_colours_read(table: &[u16], address: u32) -> Word
+pub fn linkshoar_colours_read(table: &[u16], address: u32) -> Word
     ensures { result ≡ read_call table.now address }
 {
     colours::reads::read(table, address)
 }
 
 // A read of the low eight bits.
-#[unsafe(no_mangle)]
-pub extern "C" fn linkshoar_colours_read_low(table: &[u16], address: u32) -> Byte
+pub fn linkshoar_colours_read_low(table: &[u16], address: u32) -> Byte
     ensures { result ≡ read_low_call table.now address }
 {
     colours::reads::read_low(table, address)
 }
 
 // A read of the high five bits.
-#[unsafe(no_mangle)]
-pub extern "C" fn linkshoar_colours_read_high(table: &[u16], address: u32) -> Byte
+pub fn linkshoar_colours_read_high(table: &[u16], address: u32) -> Byte
     ensures { result ≡ read_high_call table.now address }
 {
     colours::reads::read_high(table, address)
 }
 
 // One pixel clock: inputs enter, and the levels of those that entered three clocks before come out.
-#[unsafe(no_mangle)]
-pub extern "C" fn linkshoar_colours_pixel(state: Held, table: &[u16], inputs: HeldInputs) -> Emitted
+pub fn linkshoar_colours_pixel(state: Held, table: &[u16], inputs: HeldInputs) -> Emitted
     ensures { result ≡ held_pixel state table.now inputs }
 {
     if lawful(state) {

@@ -51,16 +51,14 @@ pub struct Fetched {
 }
 
 // The registers and counters at power-on.
-#[unsafe(no_mangle)]
-pub extern "C" fn linkshoar_controller_fresh() -> Held
+pub fn linkshoar_controller_fresh() -> Held
     ensures { result ≡ handed fresh }
 {
     hand(Controller::fresh())
 }
 
 // Top of Frame, from the next vertical sync on.
-#[unsafe(no_mangle)]
-pub extern "C" fn linkshoar_controller_set_top_of_frame(state: Held, address: u32) -> Controlled
+pub fn linkshoar_controller_set_top_of_frame(state: Held, address: u32) -> Controlled
     ensures { result ≡ held_call (SetTopOfFrame address) state }
 {
     if lawful(state) {
@@ -70,8 +68,7 @@ pub extern "C" fn linkshoar_controller_set_top_of_frame(state: Held, address: u3
 }
 
 // Top of Frame moved by a signed number of words.
-#[unsafe(no_mangle)]
-pub extern "C" fn linkshoar_controller_pan(state: Held, words: i32) -> Controlled
+pub fn linkshoar_controller_pan(state: Held, words: i32) -> Controlled
     ensures { result ≡ held_call (Pan words) state }
 {
     if lawful(state) {
@@ -81,8 +78,7 @@ pub extern "C" fn linkshoar_controller_pan(state: Held, words: i32) -> Controlle
 }
 
 // The Offset; setting it resets the chip.
-#[unsafe(no_mangle)]
-pub extern "C" fn linkshoar_controller_set_offset(state: Held, offset: u32) -> Controlled
+pub fn linkshoar_controller_set_offset(state: Held, offset: u32) -> Controlled
     ensures { result ≡ held_call (SetOffset offset) state }
 {
     if lawful(state) {
@@ -92,8 +88,7 @@ pub extern "C" fn linkshoar_controller_set_offset(state: Held, offset: u32) -> C
 }
 
 // The Mode register whole.
-#[unsafe(no_mangle)]
-pub extern "C" fn linkshoar_controller_set_mode(
+pub fn linkshoar_controller_set_mode(
     state: Held,
     cycles: u32,
     page: u32,
@@ -108,8 +103,7 @@ pub extern "C" fn linkshoar_controller_set_mode(
 }
 
 // Video on, or off where the number is 0.
-#[unsafe(no_mangle)]
-pub extern "C" fn linkshoar_controller_video(state: Held, on: u32) -> Controlled
+pub fn linkshoar_controller_video(state: Held, on: u32) -> Controlled
     ensures { result ≡ held_call (Video on) state }
 {
     if lawful(state) {
@@ -119,8 +113,7 @@ pub extern "C" fn linkshoar_controller_video(state: Held, on: u32) -> Controlled
 }
 
 // A horizontal sync.
-#[unsafe(no_mangle)]
-pub extern "C" fn linkshoar_controller_horizontal_sync(state: Held) -> Controlled
+pub fn linkshoar_controller_horizontal_sync(state: Held) -> Controlled
     ensures { result ≡ held_call HorizontalSync state }
 {
     if lawful(state) {
@@ -130,8 +123,7 @@ pub extern "C" fn linkshoar_controller_horizontal_sync(state: Held) -> Controlle
 }
 
 // A vertical sync.
-#[unsafe(no_mangle)]
-pub extern "C" fn linkshoar_controller_vertical_sync(state: Held) -> Controlled
+pub fn linkshoar_controller_vertical_sync(state: Held) -> Controlled
     ensures { result ≡ held_call VerticalSync state }
 {
     if lawful(state) {
@@ -141,8 +133,7 @@ pub extern "C" fn linkshoar_controller_vertical_sync(state: Held) -> Controlled
 }
 
 // A video word fetched: its address as bank, row and column.
-#[unsafe(no_mangle)]
-pub extern "C" fn linkshoar_controller_fetch(state: Held) -> Fetched
+pub fn linkshoar_controller_fetch(state: Held) -> Fetched
     ensures { result ≡ held_fetch state }
 {
     if lawful(state) {

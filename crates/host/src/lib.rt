@@ -7,10 +7,10 @@ ghost use Rattle.std.specs.Prelude.{◌≡◌};
 ghost use Rattle.vram.specs.State.{fresh as fresh_vram};
 ghost use Rattle.vram.specs.Calls.{word_read_call};
 ghost use Rattle.palette.specs.State.{fresh as fresh_palette};
-ghost use Rattle.palette.specs.Calls.{outcome as accessedOutcome, write_call, read_call};
+ghost use Rattle.palette.specs.Calls.{outcome as accessed_outcome, write_call, read_call};
 ghost use Rattle.panel.specs.Panel.{part_at};
 ghost use Rattle.planner.specs.Fill.{fill};
-ghost use Rattle.planner.specs.Calls.{outcome as filledOutcome, fill_call};
+ghost use Rattle.planner.specs.Calls.{outcome as filled_outcome, fill_call};
 ghost use Rattle.planner.specs.Paint.{list_in, Demanded};
 ghost use Rattle.registers.specs.State.{handed};
 ghost use Rattle.registers.specs.Lists.{listed, list_call};
@@ -40,24 +40,21 @@ pub struct Clocked {
 }
 
 // The registers at power-on.
-#[unsafe(no_mangle)]
-pub extern "C" fn linkshoar_vram_fresh() -> Registers
+pub fn linkshoar_vram_fresh() -> Registers
     ensures { result ≡ handed fresh_vram }
 {
     hand(Vram::fresh())
 }
 
 // The palette's registers at power-on.
-#[unsafe(no_mangle)]
-pub extern "C" fn linkshoar_palette_fresh() -> Palette
+pub fn linkshoar_palette_fresh() -> Palette
     ensures { result ≡ fresh_palette }
 {
     Palette::fresh()
 }
 
 // The planner's call again: an archive has the exports of its own crate alone.
-#[unsafe(no_mangle)]
-pub extern "C" fn linkshoar_fill(
+pub fn linkshoar_fill(
     rows: u32,
     first_row: u32,
     end_row: u32,
@@ -68,8 +65,8 @@ pub extern "C" fn linkshoar_fill(
     persistent: u32,
     list: &mut [u8],
 ) -> Filled
-    ensures outcome { filledOutcome result list.new ≡ fill_call (fill rows first_row end_row first_column end_column mask colour persistent) list.old }
-    ensures demand { result.number ≡ 0 → Demanded (fill rows first_row end_row first_column end_column mask colour persistent) result (list_in (filledOutcome result list.new)) }
+    ensures outcome { filled_outcome result list.new ≡ fill_call (fill rows first_row end_row first_column end_column mask colour persistent) list.old }
+    ensures demand { result.number ≡ 0 → Demanded (fill rows first_row end_row first_column end_column mask colour persistent) result (list_in (filled_outcome result list.new)) }
 {
     planner::linkshoar_fill(
         rows,
@@ -85,8 +82,7 @@ pub extern "C" fn linkshoar_fill(
 }
 
 // A list, checked whole and then run in order.
-#[unsafe(no_mangle)]
-pub extern "C" fn linkshoar_list_run(
+pub fn linkshoar_list_run(
     state: Registers,
     memory: &mut [u16],
     serial: &mut [u16],
@@ -106,16 +102,14 @@ pub extern "C" fn linkshoar_list_run(
 }
 
 // A word, with 0 in a byte not strobed.
-#[unsafe(no_mangle)]
-pub extern "C" fn linkshoar_word_read(memory: &[u16], row: u32, column: u32, strobes: u32) -> Word
+pub fn linkshoar_word_read(memory: &[u16], row: u32, column: u32, strobes: u32) -> Word
     ensures { result ≡ word_read_call memory.now row column strobes }
 {
     vram::read(memory, row, column, strobes)
 }
 
 // One serial clock.
-#[unsafe(no_mangle)]
-pub extern "C" fn linkshoar_serial_clock(state: Registers, serial: &[u16]) -> Clocked
+pub fn linkshoar_serial_clock(state: Registers, serial: &[u16]) -> Clocked
     ensures { result ≡ clock_call state serial.now }
 {
     if lawful(state) {
@@ -169,8 +163,7 @@ fn panel_run(
 }
 
 // A run to the panel with parts of eight bits, the default.
-#[unsafe(no_mangle)]
-pub extern "C" fn linkshoar_panel_run(
+pub fn linkshoar_panel_run(
     state: Registers,
     serial: &[u16],
     palette: Palette,
@@ -194,8 +187,7 @@ pub extern "C" fn linkshoar_panel_run(
 }
 
 // A run to the panel with parts of six bits.
-#[unsafe(no_mangle)]
-pub extern "C" fn linkshoar_panel_run_six(
+pub fn linkshoar_panel_run_six(
     state: Registers,
     serial: &[u16],
     palette: Palette,
@@ -219,21 +211,14 @@ pub extern "C" fn linkshoar_panel_run_six(
 }
 
 // A palette write. Any bytes that C hands over are a `Palette`, so its state needs no test here.
-#[unsafe(no_mangle)]
-pub extern "C" fn linkshoar_palette_write(
-    state: Palette,
-    table: &mut [u8],
-    select: u32,
-    value: u8,
-) -> Accessed
-    ensures { accessedOutcome result table.new ≡ write_call state table.old select value }
+pub fn linkshoar_palette_write(state: Palette, table: &mut [u8], select: u32, value: u8) -> Accessed
+    ensures { accessed_outcome result table.new ≡ write_call state table.old select value }
 {
     state.write(table, select, value)
 }
 
 // A palette read.
-#[unsafe(no_mangle)]
-pub extern "C" fn linkshoar_palette_read(state: Palette, table: &[u8], select: u32) -> Accessed
+pub fn linkshoar_palette_read(state: Palette, table: &[u8], select: u32) -> Accessed
     ensures { result ≡ read_call state table.now select }
 {
     state.read(table, select)

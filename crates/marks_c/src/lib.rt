@@ -19,8 +19,7 @@ pub struct Marked {
 }
 
 // A list, checked whole and then run in order; the rows that its writes name are marked.
-#[unsafe(no_mangle)]
-pub extern "C" fn linkshoar_list_run_marked(
+pub fn linkshoar_list_run_marked(
     state: Registers,
     memory: &mut [u16],
     serial: &mut [u16],
@@ -41,16 +40,14 @@ pub extern "C" fn linkshoar_list_run_marked(
 }
 
 // All marks cleared.
-#[unsafe(no_mangle)]
-pub extern "C" fn linkshoar_marks_clear(marks: &mut [u8]) -> u32
+pub fn linkshoar_marks_clear(marks: &mut [u8]) -> u32
     ensures { cleared result marks.new ≡ clear_call marks.old }
 {
     marks::clear(marks)
 }
 
 // The least marked row from a start row on, itself included.
-#[unsafe(no_mangle)]
-pub extern "C" fn linkshoar_marks_next(marks: &[u8], start: u32) -> Marked
+pub fn linkshoar_marks_next(marks: &[u8], start: u32) -> Marked
     ensures { result ≡ handed_next (next_call marks.now start) }
 {
     let next = marks::next(marks, start);

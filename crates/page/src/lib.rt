@@ -54,8 +54,7 @@ fn refused(number: u32, place: u64) -> Paged
 }
 
 // The joined lists of a page's fills, at the start of the buffer. Persistent: 0 no, any other number yes.
-#[unsafe(no_mangle)]
-pub extern "C" fn linkshoar_page(
+pub fn linkshoar_page(
     rows: u32,
     persistent: u32,
     rectangles: &[u8],

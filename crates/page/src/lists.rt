@@ -1,6 +1,6 @@
 // The lists of a page's fills, one after the other.
 ghost use Rattle.std.specs.Prelude.{◌≡◌, ◌≤◌, ◌<◌, length};
-ghost use Rattle.planner.specs.Calls.{outcome as filledOutcome, fill_call};
+ghost use Rattle.planner.specs.Calls.{outcome as filled_outcome, fill_call};
 ghost use Rattle.page.specs.Rectangles.{rectangle_of, body, items, fill_of};
 ghost use Rattle.page.specs.Calls.{fills_of, joined, plans, verdict, outcome, page_answer};
 ghost use Rattle.list.specs.Meaning.{bad};
@@ -12,7 +12,7 @@ use planner::{Filled, linkshoar_fill};
 // The list of the fill that the field at the head of some bytes asks for, at the start of a part of the buffer.
 fn put_fill(rows: u32, field: &[u8], list: &mut [u8]) -> Filled
     requires { 15 ≤ length field.now }
-    ensures { filledOutcome result list.new ≡ fill_call (fill_of rows (rectangle_of (body field.now))) list.old }
+    ensures { filled_outcome result list.new ≡ fill_call (fill_of rows (rectangle_of (body field.now))) list.old }
 {
     let r = rectangle_of(&field[3..15]);
     linkshoar_fill(

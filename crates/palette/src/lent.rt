@@ -13,8 +13,7 @@ pub struct Byte {
 }
 
 // `Palette::write`, with the state left where it was lent.
-#[unsafe(no_mangle)]
-pub extern "C" fn linkshoar_palette_write_lent(
+pub fn linkshoar_palette_write_lent(
     state: &mut Palette,
     table: &mut [u8],
     select: u32,
@@ -29,12 +28,7 @@ pub extern "C" fn linkshoar_palette_write_lent(
 }
 
 // `Palette::read`, with the state left where it was lent.
-#[unsafe(no_mangle)]
-pub extern "C" fn linkshoar_palette_read_lent(
-    state: &mut Palette,
-    table: &[u8],
-    select: u32,
-) -> Byte
+pub fn linkshoar_palette_read_lent(state: &mut Palette, table: &[u8], select: u32) -> Byte
     ensures { accessed state.new result.byte result.number ≡ read_call state.old table.now select }
 {
     let before = *state;

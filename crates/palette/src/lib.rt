@@ -10,7 +10,7 @@ ghost use Rattle.palette.specs.State.{fresh};
 ghost use Rattle.palette.specs.Calls.{access_refusal, outcome, write_call, read_call};
 
 mod access;
-mod lent;
+pub mod lent;
 mod state;
 
 // The registers, by value. Every field is public: a state that the rules exclude can be built, and is refused.

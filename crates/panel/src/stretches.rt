@@ -1,6 +1,6 @@
 // A run in stretches, each to the end of the pointer's partition.
 ghost use Rattle.std.specs.Prelude.{◌≡◌, ◌++◌, ◌+◌, ◌-◌, ◌*◌, ◌≤◌, ◌<◌, min, length, take, drop};
-ghost use Rattle.vram.specs.Serial.{clocks as movedBy, clocked_words};
+ghost use Rattle.vram.specs.Serial.{clocks as moved_by, clocked_words};
 ghost use Rattle.vram.specs.Calls.{clocks_refusal};
 ghost use Rattle.panel.specs.Panel.{part_at, panel_of, bytes_of, shown, zeros, run_bytes};
 ghost use Rattle.numbers.specs.Buffer.{over};
@@ -27,7 +27,7 @@ fn stretch(
     done: u32,
 ) -> u32
     requires { (clocks_refusal state clocks ≡ 0) × (length serial.now ≡ 256) × (length table.now ≡ 768) × (3 * clocks ≤ length out.old) × (done < clocks) }
-    ensures { (done < result) × (result ≤ clocks) × (out.new ≡ take (3 * done) out.old ++ over (bytes_of (panel_of (part_at width) mask table.now) (clocked_words (result - done) (movedBy done state) serial.now)) (drop (3 * done) out.old)) }
+    ensures { (done < result) × (result ≤ clocks) × (out.new ≡ take (3 * done) out.old ++ over (bytes_of (panel_of (part_at width) mask table.now) (clocked_words (result - done) (moved_by done state) serial.now)) (drop (3 * done) out.old)) }
 {
     let here = state.clocks(done);
     let count = least(here.through, clocks - done);

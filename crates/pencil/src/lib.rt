@@ -8,7 +8,7 @@
 ghost use Rattle.std.specs.Prelude.{◌≡◌};
 ghost use Rattle.vram.specs.Board.{board};
 ghost use Rattle.list.specs.Meaning.{outcome};
-ghost use Rattle.marks.specs.Calls.{outcome as markedOutcome};
+ghost use Rattle.marks.specs.Calls.{outcome as marked_outcome};
 ghost use Rattle.pencil.specs.Calls.{run_call, marked_call};
 
 pub mod bits;
@@ -46,7 +46,7 @@ pub fn run_marked(
     marks: &mut [u8],
     list: &[u8],
 ) -> Ran
-    ensures { markedOutcome result memory.new serial.new marks.new ≡ marked_call list.now (board state memory.old serial.old) marks.old }
+    ensures { marked_outcome result memory.new serial.new marks.new ≡ marked_call list.now (board state memory.old serial.old) marks.old }
 {
     let n = state.given(memory.len(), serial.len());
     if n != numbers::DONE {

@@ -6,8 +6,7 @@ ghost use Rattle.pencil_c.specs.Calls.{pencil_marked_call};
 use registers::{Ran, Registers, hand_ran, lawful, take};
 
 // Checked whole, then run in order; the rows that its writes name are marked.
-#[unsafe(no_mangle)]
-pub extern "C" fn linkshoar_pencil_run_marked(
+pub fn linkshoar_pencil_run_marked(
     state: Registers,
     memory: &mut [u16],
     serial: &mut [u16],

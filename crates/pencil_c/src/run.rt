@@ -6,8 +6,7 @@ ghost use Rattle.pencil_c.specs.Calls.{pencil_call};
 use registers::{Ran, Registers, hand_ran, lawful, take};
 
 // Checked whole, then run in order.
-#[unsafe(no_mangle)]
-pub extern "C" fn linkshoar_pencil_run(
+pub fn linkshoar_pencil_run(
     state: Registers,
     memory: &mut [u16],
     serial: &mut [u16],

@@ -36,8 +36,7 @@ pub struct Taken {
 }
 
 // Before a list's first byte.
-#[unsafe(no_mangle)]
-pub extern "C" fn linkshoar_pieces_fresh() -> Pieces
+pub fn linkshoar_pieces_fresh() -> Pieces
     ensures { result ≡ handed_line (pack fresh) }
 {
     let line = pieces::fresh();
@@ -45,8 +44,7 @@ pub extern "C" fn linkshoar_pieces_fresh() -> Pieces
 }
 
 // A piece of a list, also one of no bytes.
-#[unsafe(no_mangle)]
-pub extern "C" fn linkshoar_pieces_take(
+pub fn linkshoar_pieces_take(
     state: Registers,
     line: Pieces,
     memory: &mut [u16],
@@ -63,8 +61,7 @@ pub extern "C" fn linkshoar_pieces_take(
 }
 
 // The list is over.
-#[unsafe(no_mangle)]
-pub extern "C" fn linkshoar_pieces_end(
+pub fn linkshoar_pieces_end(
     state: Registers,
     line: Pieces,
     memory: &[u16],

@@ -159,8 +159,7 @@ pub fn measure(
 
 // A fill's list at the start of the buffer. Persistent: 0 no, any other number yes.
 // Where it answers 0, the list is as demand 3 asks: it paints, no list that paints is shorter, and the counts are its own.
-#[unsafe(no_mangle)]
-pub extern "C" fn linkshoar_fill(
+pub fn linkshoar_fill(
     rows: u32,
     first_row: u32,
     end_row: u32,

@@ -16,9 +16,9 @@ returns-in-1 c =
     let w = c in
     let k = w.in-1.is in
     record {
-  state = rw k w.coloured.ensures.state;
-  entry = rw k w.coloured.ensures.entry;
-}
+      state = rw k w.coloured.ensures.state;
+      entry = rw k w.coloured.ensures.entry;
+    }
 
 pub returns-in-2 : goal.returns-in-2
 unfolding after_write table_after_write

@@ -10,9 +10,9 @@ returns-then-self-eq2 c =
     let k = eq-eqb _ _ b.if-self-eq2.true in
     let e = rw m.with_register.ensures at m.moved-state.ensures in
     record {
-  state = rw k (rw e at w.entered.ensures.state);
-  entry = rw k (rw e at w.entered.ensures.entry);
-}
+      state = rw k (rw e at w.entered.ensures.state);
+      entry = rw k (rw e at w.entered.ensures.entry);
+    }
 
 pub returns : goal.returns
 returns c =
@@ -20,6 +20,6 @@ returns c =
     let k = ne_eqb _ _ c.if-self-eq2.false in
     let e = rw m.with_register.ensures at m.moved-state.ensures in
     record {
-  state = rw k e;
-  entry = rw k;
-}
+      state = rw k e;
+      entry = rw k;
+    }

@@ -11,6 +11,6 @@ returns c =
     c.with_phase.ensures
     ∙ ap (with_phase p)
     (elim c.if-phase-lt2.branch [
-      then-phase-lt2 w ↦ w.next-is ∙ sym (phase_next p.phase w.if-phase-lt2.true)
+      | then-phase-lt2 w ↦ w.next-is ∙ sym (phase_next p.phase w.if-phase-lt2.true)
       | else-phase-lt2 w ↦ w.next-is ∙ sym (phase_last p.phase w.if-phase-lt2.false)
     ])

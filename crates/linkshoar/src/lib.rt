@@ -1,0 +1,11 @@
+// The C library: what a C program calls, as `host/include/linkshoar.h` declares it. A static library has the exports of its own crate alone,
+// and no crate can stand on one: so each export calls the function of its name below and has its clauses again, and adds nothing.
+#![tactic(auto)]
+
+mod board;
+mod colours;
+mod controller;
+mod marks;
+mod pages;
+mod pencil;
+mod pieces;
