@@ -9,8 +9,8 @@ use Rattle.colours.specs.declared.Output.{Output}
 use Rattle.colours.specs.Output.{zeros}
 use Rattle.colours.specs.State.{moved, ruled}
 use Rattle.colours.specs.Calls.{emitted, ask_call, write_call, write_low_call, write_high_call, pixel_call}
-use Rattle.colours.specs.CallLaws.{write_refused, low_refused, high_refused, refused_pixel, emitted_by, pixel_by}
-use Rattle.colours.specs.NumberLaws.{write_not_1, high_not_1, pixel_not_1, low_0}
+use Rattle.colours.proofs.CallLaws.{write_refused, low_refused, high_refused, refused_pixel, emitted_by, pixel_by}
+use Rattle.colours.proofs.NumberLaws.{write_not_1, high_not_1, pixel_not_1, low_0}
 use Rattle.colours_c.specs.declared.Held.{Held}
 use Rattle.colours_c.specs.declared.HeldInputs.{HeldInputs}
 use Rattle.colours_c.specs.declared.HeldLevels.{HeldLevels}

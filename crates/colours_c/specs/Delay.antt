@@ -6,9 +6,9 @@ use Rattle.std.proofs.Math.Path.{ap}
 use Rattle.std.proofs.lemmas.List.{length-map}
 use Rattle.colours.specs.declared.Output.TheVariants.{Blank}
 use Rattle.colours.specs.State.{fresh, pipe}
-use Rattle.colours.specs.StateLaws.{fresh_ruled}
+use Rattle.colours.proofs.StateLaws.{fresh_ruled}
 use Rattle.colours.specs.Session.{board, after, Passed, asked, passed}
-use Rattle.colours.specs.Pipe.{mapped_at, first_three, three_later}
+use Rattle.colours.proofs.Pipe.{mapped_at, first_three, three_later}
 use Rattle.colours_c.specs.declared.Held.{Held}
 use Rattle.colours_c.specs.declared.HeldLevels.{HeldLevels}
 use Rattle.colours_c.specs.Levels.{held_levels, handed_output}

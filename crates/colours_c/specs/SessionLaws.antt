@@ -5,7 +5,7 @@ use Rattle.colours.specs.declared.Colours.{Colours}
 use Rattle.colours.specs.State.{ruled}
 use Rattle.colours.specs.Calls.{write_call, write_low_call, write_high_call, pixel_call}
 use Rattle.colours.specs.Session.{Board, after, session, Passed, came, passing, passed}
-use Rattle.colours.specs.SessionLaws.{after_ruled}
+use Rattle.colours.proofs.SessionLaws.{after_ruled}
 use Rattle.colours_c.specs.declared.HeldInputs.{HeldInputs}
 use Rattle.colours_c.specs.declared.HeldLevels.{HeldLevels}
 use Rattle.colours_c.specs.declared.Emitted.{Emitted}

@@ -8,7 +8,7 @@ use Rattle.colours.specs.declared.Colours.{Colours}
 use Rattle.colours.specs.declared.Waiting.{Waiting}
 use Rattle.colours.specs.declared.Waiting.TheVariants.{None, Low}
 use Rattle.colours.specs.State.{waits, low_waiting, ruled}
-use Rattle.colours.specs.StateLaws.{ruled_parts, ruled_whole}
+use Rattle.colours.proofs.StateLaws.{ruled_parts, ruled_whole}
 use Rattle.colours_c.specs.declared.Held.{Held}
 use Rattle.colours_c.specs.Levels.{makes}
 use Rattle.colours_c.specs.LevelLaws.{handed_taken_output, taken_steps, handed_makes, taken_handed_output}

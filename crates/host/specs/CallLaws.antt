@@ -8,11 +8,11 @@ use Rattle.vram.specs.declared.Vram.{Vram}
 use Rattle.vram.specs.declared.Clocked.{Clocked as VramClocked}
 use Rattle.vram.specs.declared.Answered.{Answered}
 use Rattle.vram.specs.Calls.{clock_call as vram_clock}
-use Rattle.vram.specs.CallLaws.{clock_refuses, clock_persistent}
+use Rattle.vram.proofs.CallLaws.{clock_refuses, clock_persistent}
 use Rattle.palette.specs.declared.Palette.{Palette}
 use Rattle.panel.specs.Calls.{Outcome as PanelOutcome, outcome as panel_outcome, run_call_by as panel_run_by}
-use Rattle.panel.specs.CallLaws.{run_number, run_refuses, run_persistent}
-use Rattle.panel.specs.WidthLaws.{same_answer}
+use Rattle.panel.proofs.CallLaws.{run_number, run_refuses, run_persistent}
+use Rattle.panel.proofs.WidthLaws.{same_answer}
 use Rattle.registers.specs.declared.Registers.{Registers}
 use Rattle.registers.specs.State.{lawful, taken, handed}
 use Rattle.registers.specs.StateLaws.{handed_taken, taking_excluded, taking_done, taking_handed, taking_either, handed_plain, taking_plain, other_length}

@@ -7,11 +7,11 @@ use Rattle.words.specs.Word.{high}
 use Rattle.vram.specs.Serial.{clocked_words}
 use Rattle.vram.specs.Calls.{clock_call as vram_clock}
 use Rattle.vram.specs.High.{Agree}
-use Rattle.vram.specs.HighLaws.{clock_number, clock_state, clock_high}
+use Rattle.vram.proofs.HighLaws.{clock_number, clock_state, clock_high}
 use Rattle.palette.specs.declared.Palette.{Palette}
 use Rattle.panel.specs.Panel.{pixel_at}
 use Rattle.panel.specs.Calls.{run_call_by as panel_run_by}
-use Rattle.panel.specs.HighLaws.{answer_twins, pixel_twins}
+use Rattle.panel.proofs.HighLaws.{answer_twins, pixel_twins}
 use Rattle.registers.specs.declared.Registers.{Registers}
 use Rattle.registers.specs.State.{taken}
 use Rattle.registers.specs.StateLaws.{taking_both}

@@ -14,17 +14,17 @@ use Rattle.vram.specs.Board.{Board}
 use Rattle.vram.specs.Refusal.{refusal}
 use Rattle.vram.specs.Step.{step, run}
 use Rattle.vram.specs.Calls.{Outcome, cycle_call}
-use Rattle.vram.specs.CaseLaws.{cycle_after, run_none, run_next}
+use Rattle.vram.proofs.CaseLaws.{cycle_after, run_none, run_next}
 use Rattle.list.specs.declared.Bad.{Bad}
 use Rattle.list.specs.declared.Open.{Open}
 use Rattle.list.specs.Tags.{len_of, cycle_of}
 use Rattle.list.specs.Fields.{tag, body, whole, field_of, size_of, fields}
-use Rattle.list.specs.FieldLaws.{whole_length, fields_nil, fields_whole, fields_not, field_not, readable_head, readable_tail}
+use Rattle.list.proofs.FieldLaws.{whole_length, fields_nil, fields_whole, fields_not, field_not, readable_head, readable_tail}
 use Rattle.list.specs.Open.{opens}
-use Rattle.list.specs.OpenLaws.{open_whole}
+use Rattle.list.proofs.OpenLaws.{open_whole}
 use Rattle.list.specs.Meaning.{number_of, bad, readable, left_behind, first_bad, judged, cycles_of}
-use Rattle.list.specs.VerdictLaws.{size_whole, number_whole, made_whole, cycles_whole, accepted_whole, cycles_nil}
-use Rattle.list.specs.JudgeLaws.{bad_first, bad_later, judged_nil, judged_good, judged_bad}
+use Rattle.list.proofs.VerdictLaws.{size_whole, number_whole, made_whole, cycles_whole, accepted_whole, cycles_nil}
+use Rattle.list.proofs.JudgeLaws.{bad_first, bad_later, judged_nil, judged_good, judged_bad}
 
 -- ---- parts of a slice
 

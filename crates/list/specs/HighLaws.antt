@@ -3,7 +3,7 @@ use Rattle.std.specs.Prelude.{◌≡◌, List, ℕ}
 use Rattle.vram.specs.Board.{Board}
 use Rattle.vram.specs.Step.{Engine}
 use Rattle.vram.specs.High.{Twins, KeepsTwins}
-use Rattle.vram.specs.HighLaws.{agree_length, leaves_twins, run_twins}
+use Rattle.vram.proofs.HighLaws.{agree_length, leaves_twins, run_twins}
 use Rattle.list.specs.Meaning.{cycles_of, verdict_of, run_call_by}
 
 module _ (list : List ℕ) {a b : Board} (t : Twins a b) where

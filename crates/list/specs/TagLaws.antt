@@ -11,7 +11,7 @@ use Rattle.vram.specs.declared.Cycle.TheVariants.{WordWrite, BlockWrite}
 use Rattle.vram.specs.Refusal.{refusal}
 use Rattle.vram.specs.Kinds.{tag_of, loads}
 use Rattle.list.specs.Tags.{byte, word, known, len_of, cycle_of}
-use Rattle.vram.specs.CaseLaws.{refusal_word, refusal_block, refusal_colour, refusal_mask, refusal_reset, refusal_full, refusal_split, refusal_stop, tag_word, tag_block, tag_colour, tag_mask, tag_reset, tag_full, tag_split, tag_stop, loads_tag}
+use Rattle.vram.proofs.CaseLaws.{refusal_word, refusal_block, refusal_colour, refusal_mask, refusal_reset, refusal_full, refusal_split, refusal_stop, tag_word, tag_block, tag_colour, tag_mask, tag_reset, tag_full, tag_split, tag_stop, loads_tag}
 
 -- a body has at most ten bytes
 pub len_most : (t : ℕ) → len_of t ≤ 10

@@ -14,14 +14,14 @@ use Rattle.vram.specs.Step.{given_of}
 use Rattle.list.specs.declared.Bad.{Bad}
 use Rattle.list.specs.Fields.{fields}
 use Rattle.list.specs.declared.Open.TheVariants.{None as Closed}
-use Rattle.list.specs.JudgeLaws.{bad_first, bad_later}
+use Rattle.list.proofs.JudgeLaws.{bad_first, bad_later}
 use Rattle.list.specs.Meaning.{bad, first_bad, judged, readable, cycles_of, verdict_of as list_verdict, Outcome as ListOutcome, run_call as list_call}
-use Rattle.list.specs.CallLaws.{judged_readable, accepted_reads, call_given}
+use Rattle.list.proofs.CallLaws.{judged_readable, accepted_reads, call_given}
 use Rattle.marks.specs.declared.Found.{Found}
 use Rattle.marks.specs.declared.Found.TheVariants.{None}
 use Rattle.marks.specs.Marks.{no_marks, marked_by_all, first_marked}
 use Rattle.marks.specs.Calls.{length_number, verdict_of, gives, run_call, noted, mark_call, cleared, clear_call, next_number, answers, next_call}
-use Rattle.marks.specs.CallLaws.{length_fine, length_zero, length_other, verdict_first, verdict_18, run_refuses_by, run_is, next_zero}
+use Rattle.marks.proofs.CallLaws.{length_fine, length_zero, length_other, verdict_first, verdict_18, run_refuses_by, run_is, next_zero}
 
 -- ---- a list with marks: g is what 1 to 3 say, k what 18 says, n the first of both
 

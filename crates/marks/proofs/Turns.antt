@@ -14,13 +14,13 @@ use Rattle.vram.specs.declared.Cycle.{Cycle}
 use Rattle.list.specs.Tags.{byte, word, len_of, cycle_of}
 use Rattle.list.specs.TagLaws.{len_most, len_write, known_some, cycle_tag}
 use Rattle.list.specs.Fields.{tag, body, whole, fields}
-use Rattle.list.specs.FieldLaws.{whole_length, whole_known, whole_says, body_word, readable_head, readable_tail}
+use Rattle.list.proofs.FieldLaws.{whole_length, whole_known, whole_says, body_word, readable_head, readable_tail}
 use Rattle.list.specs.Meaning.{readable, cycles_of}
-use Rattle.list.specs.VerdictLaws.{cycles_nil, cycles_whole}
+use Rattle.list.proofs.VerdictLaws.{cycles_nil, cycles_whole}
 use Rattle.marks.specs.declared.Found.TheVariants.{Row}
 use Rattle.marks.specs.Marks.{is_marked, mark, marked_by, marked_by_all, first_marked}
-use Rattle.marks.specs.MarkLaws.{by_write, by_none}
-use Rattle.marks.specs.NextLaws.{first_marked_is, first_skip, left_of, left_marked, left_unmarked, left_none}
+use Rattle.marks.proofs.MarkLaws.{by_write, by_none}
+use Rattle.marks.proofs.NextLaws.{first_marked_is, first_skip, left_of, left_marked, left_unmarked, left_none}
 
 -- ---- a row's bit
 

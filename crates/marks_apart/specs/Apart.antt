@@ -9,9 +9,7 @@ use Rattle.palette.specs.declared.Palette.{Palette}
 use Rattle.panel.specs.declared.Width.{Width}
 use Rattle.panel.specs.Panel.{part_at, pixel_at}
 use Rattle.panel.specs.Calls.{Outcome, run_call_by}
-use Rattle.panel.specs.HighLaws.{answer_twins, pixel_twins}
 use Rattle.marks_apart.specs.Ways.{Way, ran}
-use Rattle.marks_apart.specs.WayLaws.{way_twins}
 
 -- on either engine, without and with marks of rows, or in pieces, cut anywhere (`Way`); with parts of eight bits or of six (`Width`)
 module _ (way : Way) (width : Width) (palette : Palette) (table : List ℕ) (clocks blank : ℕ) where
@@ -35,17 +33,3 @@ module _ (way : Way) (width : Width) (palette : Palette) (table : List ℕ) (clo
     -- a pixel whose high byte is neither 0 nor 255 shows the same colour
     pub colours : (shown a out).answer.number ≡ 0 → (i : ℕ) → i < clocks → high (word_of a i) ≢ 0 → high (word_of a i) ≢ 255
         → pixel_at i (shown a out).buffer ≡ pixel_at i (shown b out').buffer
-
-  -- for every two such boards and every two buffers of one length, whether the list and the run are refused or not
-  pub marks_apart : (a b : Board) → Twins a b → (out out' : List ℕ) → length out ≡ length out' → Unaltered a b out out'
-  marks_apart a b t out out' l =
-      let o = way_twins t way in
-      let k = o.after in
-      let s = (ran way b).after.state in
-      record {
-        given = o.given;
-        rows = o.rows;
-        boards = k;
-        answer = rw k.state (answer_twins (part_at width) s palette table clocks blank k.serial out out' l);
-        colours = rw k.state (pixel_twins (part_at width) s palette table clocks blank k.serial out out' l);
-      }

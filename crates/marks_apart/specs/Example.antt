@@ -53,16 +53,6 @@ all_differ [] (w ∷ m) = false
 all_differ (v ∷ l) [] = false
 all_differ (v ∷ l) (w ∷ m) = not (eqb (v % 256) (w % 256)) && all_differ l m
 
--- they meet what is asked of two boards
-pub both_boards : Twins one other
-unfolding with_results high
-both_boards = record { state = refl; memory = record { same = refl }; serial = record { same = refl } }
-
--- and no low byte is the same
-pub low_bytes_differ : (all_differ one.memory other.memory ≡ true) × (all_differ one.serial other.serial ≡ true)
-unfolding with_results high
-low_bytes_differ = (refl, refl)
-
 -- ---- a list and a run on both: a masked word write at column 3, a colour load, a block write at column 8, a full transfer with tap 248; then 20
 -- clocks, which answer words 248 to 255 and 0 to 11
 
@@ -95,17 +85,3 @@ alike (x ∷ l) (y ∷ m) = eqb x y && alike l m
 abbrev pub differing : ℕ → ℕ → List ℕ → List ℕ → List ℕ
 differing at zero x y = []
 differing at (suc n) x y = cond (alike (pixel_at at x) (pixel_at at y)) (differing (suc at) n x y) (at ∷ differing (suc at) n x y)
-
--- neither list nor run is refused; of the marks shown one is 255 and one is 0, and just these two pixels differ: neither can be left out of the
--- statement
-pub two_differ : (engine : Which) (width : Width)
-    → ((ran (whole engine list) one).given ≡ bad 0 0 ∷ [])
-    × ((showing engine width one).answer.number ≡ 0)
-    × (marks_shown engine width one
-    ≡ 0xF8 ∷ 0xF9 ∷ 0xFA ∷ 0xFB ∷ 0xFC ∷ 0xFD ∷ 0xFE ∷ 0xFF ∷ 0x00 ∷ 0x01 ∷ 0x02 ∷ 0x05 ∷ 0x04 ∷ 0x05 ∷ 0x06 ∷ 0x07 ∷ 0x08 ∷ 0x09 ∷ 0x02 ∷ 0x1B ∷ [])
-    × (differing 0 20 (showing engine width one).buffer (showing engine width other).buffer ≡ 7 ∷ 8 ∷ [])
-unfolding with_results high bit of_bits merged covers lets write_refusal load_refusal full_refusal ruled put puts copied effect given refusal number step_by run_by clock_in clocks_in clocked_words_in length_of clocks_refusal tag_of loads palette_ruled inverted pixel widened unwidened part_at colour_of bytes_of run_refusal run_call_by word known len_of cycle_of whole_field split field_of size_of opens open_by open_after number_of made_by verdict cycles left_behind first_bad judged verdict_of list_call_by engine_of ran with_bit bit_by_bit written bits_left word_written block_written pencil
-two_differ fast Eight = (refl, refl, refl, refl)
-two_differ fast Six = (refl, refl, refl, refl)
-two_differ plain Eight = (refl, refl, refl, refl)
-two_differ plain Six = (refl, refl, refl, refl)

@@ -6,12 +6,12 @@ use Rattle.words.specs.Word.{high}
 use Rattle.vram.specs.Serial.{clocked_words}
 use Rattle.vram.specs.Calls.{word_read_call}
 use Rattle.vram.specs.High.{Agree}
-use Rattle.vram.specs.HighLaws.{read_number, read_high}
+use Rattle.vram.proofs.HighLaws.{read_number, read_high}
 use Rattle.palette.specs.declared.Palette.{Palette}
 use Rattle.panel.specs.declared.Width.{Width}
 use Rattle.panel.specs.declared.Width.TheVariants.{Six, Eight}
 use Rattle.panel.specs.Panel.{part_at}
-use Rattle.panel.specs.PartLaws.{six_rule, eight_rule}
+use Rattle.panel.proofs.PartLaws.{six_rule, eight_rule}
 use Rattle.registers.specs.declared.Registers.{Registers}
 use Rattle.registers.specs.State.{taken}
 use Rattle.registers.specs.Lists.{list_call_by, list_call}

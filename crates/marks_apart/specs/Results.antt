@@ -12,20 +12,20 @@ use Rattle.vram.specs.declared.Cycle.{Cycle}
 use Rattle.vram.specs.Memory.{Words}
 use Rattle.vram.specs.Board.{Board, effect}
 use Rattle.vram.specs.High.{Agree, all_spare}
-use Rattle.vram.specs.HighLaws.{agree_from}
-use Rattle.vram.specs.SpareLaws.{run_spares}
+use Rattle.vram.proofs.HighLaws.{agree_from}
+use Rattle.vram.proofs.SpareLaws.{run_spares}
 use Rattle.list.specs.Meaning.{cycles_of, verdict_of, run_call}
-use Rattle.list.specs.CallLaws.{call_runs, call_refuses, calls_same}
+use Rattle.list.proofs.CallLaws.{call_runs, call_refuses, calls_same}
 use Rattle.marks.specs.Calls.{verdict_of as marked_verdict, run_call as marked_call}
-use Rattle.marks.specs.CallLaws.{run_runs_by, run_refuses_by, marked_same}
+use Rattle.marks.proofs.CallLaws.{run_runs_by, run_refuses_by, marked_same}
 use Rattle.planner.specs.Fill.{Fill, inside}
 use Rattle.planner.specs.Calls.{fill_call}
 use Rattle.planner.specs.Paint.{painted, list_in, Wide, Start}
-use Rattle.planner.specs.PaintLaws.{drawn_at, painted_length}
-use Rattle.planner.specs.ItPaints.{it_paints}
-use Rattle.pencil.specs.EngineLaws.{pencil_effect}
+use Rattle.planner.proofs.PaintLaws.{drawn_at, painted_length}
+use Rattle.planner.proofs.ItPaints.{it_paints}
+use Rattle.pencil.proofs.EngineLaws.{pencil_effect}
 use Rattle.pieces.specs.Line.{limit}
-use Rattle.pieces.specs.SpareLaws.{cut_spares}
+use Rattle.pieces.proofs.SpareLaws.{cut_spares}
 use Rattle.marks_apart.specs.Ways.{Which, fast, plain, engine_of, Way, whole, marked, pieces, ran}
 
 -- ---- the bytes of a list, whichever way it is run

@@ -3,11 +3,11 @@ use Rattle.std.specs.Prelude.{◌≡◌, refl, List, [], ◌∷◌, ◌++◌}
 use Rattle.std.proofs.Common.{ap, ap₂}
 use Rattle.vram.specs.Board.{Board}
 use Rattle.vram.specs.High.{Twins, KeepsTwins}
-use Rattle.vram.specs.HighLaws.{effect_twins}
+use Rattle.vram.proofs.HighLaws.{effect_twins}
 use Rattle.list.specs.declared.Bad.{Bad}
 use Rattle.list.specs.HighLaws.{given_twins, after_twins}
-use Rattle.marks.specs.HighLaws.{given_twins as marked_given, marks_twins as marked_rows, after_twins as marked_after}
-use Rattle.pencil.specs.EngineLaws.{pencil_twins}
+use Rattle.marks.proofs.HighLaws.{given_twins as marked_given, marks_twins as marked_rows, after_twins as marked_after}
+use Rattle.pencil.proofs.EngineLaws.{pencil_twins}
 use Rattle.pieces.specs.Line.{fresh}
 use Rattle.pieces.specs.Pieces.{pack}
 use Rattle.pieces.specs.HighLaws.{answers_twins, ends_twins}

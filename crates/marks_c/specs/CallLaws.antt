@@ -15,7 +15,7 @@ use Rattle.registers.specs.StateLaws.{handed_taken, taking_excluded, taking_done
 use Rattle.marks.specs.declared.Found.{Found}
 use Rattle.marks.specs.declared.Marked.{Marked as Below}
 use Rattle.marks.specs.Calls.{Outcome, outcome, run_call_by, run_call, next_call, Values, values_of}
-use Rattle.marks.specs.CallLaws.{run_given_by, run_refuses_by, marked_same, run_plain, answered_is}
+use Rattle.marks.proofs.CallLaws.{run_given_by, run_refuses_by, marked_same, run_plain, answered_is}
 use Rattle.marks_c.specs.declared.Marked.{Marked}
 use Rattle.marks_c.specs.Calls.{Listed, listed, list_answer, marked_call_by, marked_call, handed_next}
 

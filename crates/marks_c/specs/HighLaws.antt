@@ -11,7 +11,7 @@ use Rattle.registers.specs.State.{taken, handed_answer, excluded_ran}
 use Rattle.registers.specs.StateLaws.{taking_both}
 use Rattle.registers.specs.HighLaws.{with_state}
 use Rattle.marks.specs.Calls.{run_call_by}
-use Rattle.marks.specs.HighLaws.{given_twins, marks_twins, after_twins}
+use Rattle.marks.proofs.HighLaws.{given_twins, marks_twins, after_twins}
 use Rattle.marks_c.specs.Calls.{Listed, listed, list_answer, marked_call_by}
 
 pub record TwinListed (o u : Listed) : Type 0 where

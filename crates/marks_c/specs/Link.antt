@@ -5,9 +5,9 @@ use Rattle.std.proofs.Common.{sym, ap, ◌∙◌}
 use Rattle.vram.specs.Writes.{row_of}
 use Rattle.marks.specs.Marks.{is_marked, named_in}
 use Rattle.marks.specs.Runs.{Drawn, since, ran_since, memory_since, marks_since}
-use Rattle.marks.specs.Since.{marked_since, unmarked_holds}
+use Rattle.marks.proofs.Since.{marked_since, unmarked_holds}
 use Rattle.marks.specs.Walk.{sent_rows}
-use Rattle.marks.specs.Link.{link_whole}
+use Rattle.marks.proofs.Link.{link_whole}
 use Rattle.marks_c.specs.Runs.{Run, after_all, runs_of, visited}
 use Rattle.marks_c.specs.RunLaws.{runs_below, walk_below}
 

@@ -6,11 +6,11 @@ use Rattle.registers.specs.State.{lawful}
 use Rattle.marks.specs.declared.Found.{Found}
 use Rattle.marks.specs.declared.Found.TheVariants.{None, Row}
 use Rattle.marks.specs.Calls.{next_call, Values, values, values_of}
-use Rattle.marks.specs.CallLaws.{values_none, values_row, answered_is}
+use Rattle.marks.proofs.CallLaws.{values_none, values_row, answered_is}
 use Rattle.marks.specs.Runs.{Drawn, after as below_after, after_all as below_after_all}
-use Rattle.marks.specs.RunLaws.{order_none, order_next}
+use Rattle.marks.proofs.RunLaws.{order_none, order_next}
 use Rattle.marks.specs.Walk.{visited as below_visited}
-use Rattle.marks.specs.WalkLaws.{visited_same}
+use Rattle.marks.proofs.WalkLaws.{visited_same}
 use Rattle.marks_c.specs.Calls.{marked_call_by, handed_next}
 use Rattle.marks_c.specs.Runs.{Run, after, after_all, run_of, runs_of, found_in, visited}
 

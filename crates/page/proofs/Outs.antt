@@ -12,7 +12,7 @@ use Rattle.list.specs.Meaning.{bad}
 use Rattle.page.specs.declared.Room.TheVariants.{Left}
 use Rattle.page.specs.Rectangles.{items}
 use Rattle.page.specs.Calls.{fills_of, plans, joined, verdict, judged, page_refusal, Outcome, refused, outcome, page_answer, page_call}
-use Rattle.page.specs.CallLaws.{page_refuses, page_writes, rows_first, rows_fine, rows_later, accepted, accepted_zeros}
+use Rattle.page.proofs.CallLaws.{page_refuses, page_writes, rows_first, rows_fine, rows_later, accepted, accepted_zeros}
 
 module _ (rows persistent : ℕ) (rectangles out : List ℕ) (n : ℕ) (e : n ≡ refuse (leb 1 rows && leb rows 512) 2 0) where
   refuses : (w : Bad) → w ≡ page_refusal rows persistent rectangles (length out) → w.number ≢ 0

@@ -16,13 +16,13 @@ use Rattle.list.specs.Meaning.{bad}
 use Rattle.planner.specs.declared.Filled.{Filled}
 use Rattle.planner.specs.Fill.{Fill, plan}
 use Rattle.planner.specs.Calls.{asked_refusal, list_of, Outcome, outcome, fill_call}
-use Rattle.planner.specs.CallLaws.{asked_plain, filled, fill_fits}
+use Rattle.planner.proofs.CallLaws.{asked_plain, filled, fill_fits}
 use Rattle.page.specs.declared.Room.{Room}
 use Rattle.page.specs.Rectangles.{rectangle_of, Item, Names, body, whole, item_of, items, fill_of}
 use Rattle.page.specs.RectangleLaws.{whole_length, item_whole, items_nil, items_whole, items_begin}
 use Rattle.page.specs.Rooms.{takes, room_number}
 use Rattle.page.specs.Calls.{fills, fills_of, plans, joined, number_of, verdict, judged, measured, outcome as paged, page_answer}
-use Rattle.page.specs.CallLaws.{plans_none, joined_none, joined_more, joined_length, plans_length, measured_number, measured_length, number_whole, accepted_head, accepted_tail, accepted_any, judged_nil, judged_bad, judged_good}
+use Rattle.page.proofs.CallLaws.{plans_none, joined_none, joined_more, joined_length, plans_length, measured_number, measured_length, number_whole, accepted_head, accepted_tail, accepted_any, judged_nil, judged_bad, judged_good}
 
 -- ---- what follows the field
 

@@ -8,7 +8,7 @@ use borrow.Author.Tests.{eq-eqb}
 use Rattle.numbers.specs.Between.{both}
 use Rattle.list.specs.Tags.{byte, word}
 use Rattle.list.specs.Splits.{sized}
-use Rattle.list.specs.SplitLaws.{word_two, sized_length, sized_is, split_nil, split_good, split_not}
+use Rattle.list.proofs.SplitLaws.{word_two, sized_length, sized_is, split_nil, split_good, split_not}
 use Rattle.page.specs.declared.Rectangle.{Rectangle}
 use Rattle.page.specs.Rectangles.{rectangle_of, Item, Names, Unreadable, body, whole, item_of, items, rectangle_bytes, page_bytes}
 

@@ -9,7 +9,7 @@ use Rattle.vram.specs.declared.Vram.{Vram}
 use Rattle.vram.specs.Serial.{through, clocks, clocked_words}
 use Rattle.vram.specs.SerialLaws.{clocked_words_within}
 use Rattle.panel.specs.Panel.{Panel, bytes_of, shown}
-use Rattle.panel.specs.PanelLaws.{bytes_length, shown_add, shown_length, over_more}
+use Rattle.panel.proofs.PanelLaws.{bytes_length, shown_add, shown_length, over_more}
 use Rattle.numbers.specs.BufferLaws.{over_length, tail_part, tail_back}
 use Rattle.numbers.specs.Buffer.{over}
 

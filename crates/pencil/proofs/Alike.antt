@@ -3,11 +3,11 @@
 use mathlib.Core.Path.{◌≡◌, refl}
 use Rattle.numbers.specs.Determines.{Contract}
 use Rattle.numbers.specs.DeterminesLaws.{same_contract}
-use Rattle.list.specs.CallLaws.{calls_same}
-use Rattle.marks.specs.CallLaws.{marked_same}
+use Rattle.list.proofs.CallLaws.{calls_same}
+use Rattle.marks.proofs.CallLaws.{marked_same}
 use Rattle.list.specs.contracts.run as list_run
 use Rattle.marks.specs.contracts.run as marks_run
-use Rattle.pencil.specs.EngineLaws.{pencil_effect}
+use Rattle.pencil.proofs.EngineLaws.{pencil_effect}
 use Rattle.pencil.specs.contracts.run as pencil_run
 use Rattle.pencil.specs.contracts.run_marked as pencil_run_marked
 

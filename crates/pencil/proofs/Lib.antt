@@ -3,3 +3,7 @@ pub mod Turns
 pub mod Outs
 pub mod Once
 pub mod Alike
+-- it does what the rules' engine does
+pub mod EngineLaws
+-- the two engines give equal answers and leave equal contents
+pub mod Same

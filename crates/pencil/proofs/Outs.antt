@@ -7,9 +7,9 @@ use Rattle.vram.specs.Board.{Board}
 use Rattle.vram.specs.Step.{given_of, rows_of}
 use Rattle.list.specs.declared.Bad.{Bad}
 use Rattle.list.specs.Meaning.{bad, Outcome}
-use Rattle.list.specs.OutLaws.{finished}
+use Rattle.list.proofs.OutLaws.{finished}
 use Rattle.marks.specs.Calls.{gives, Noted, noted, mark_call}
-use Rattle.marks.specs.CallLaws.{run_first_by, run_marks_by}
+use Rattle.marks.proofs.CallLaws.{run_first_by, run_marks_by}
 use Rattle.pencil.specs.Pencil.{pencil}
 use Rattle.pencil.specs.Calls.{marked_call}
 

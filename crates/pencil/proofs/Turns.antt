@@ -19,17 +19,17 @@ use Rattle.vram.specs.Board.{Board, board, in_force}
 use Rattle.vram.specs.Refusal.{given}
 use Rattle.vram.specs.Step.{given_of, number, step_by, run_by}
 use Rattle.vram.specs.StepLaws.{steps_same}
-use Rattle.vram.specs.CaseLaws.{cycle_after, step_is, number_first, refusal_word, refusal_block, run_none, run_next}
+use Rattle.vram.proofs.CaseLaws.{cycle_after, step_is, number_first, refusal_word, refusal_block, run_none, run_next}
 use Rattle.vram.specs.Calls.{Outcome, cycle_call}
 use Rattle.list.specs.declared.Head.{Head}
 use Rattle.list.specs.declared.Head.TheVariants.{Waits, Wrong, Whole}
 use Rattle.list.specs.Heads.{head_of}
-use Rattle.list.specs.HeadLaws.{Says, head_says}
+use Rattle.list.proofs.HeadLaws.{Says, head_says}
 use Rattle.list.specs.Meaning.{cycles_of}
 use Rattle.pencil.specs.Bits.{bits_left}
 use Rattle.pencil.specs.Memory.{word_written, block_written}
 use Rattle.pencil.specs.Pencil.{write_number, pencil}
-use Rattle.pencil.specs.EngineLaws.{pencil_effect}
+use Rattle.pencil.proofs.EngineLaws.{pencil_effect}
 
 -- ---- a column of a block
 

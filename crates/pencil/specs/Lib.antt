@@ -12,7 +12,3 @@ pub mod Memory
 pub mod Pencil
 -- what each call answers and leaves
 pub mod Calls
--- it does what the rules' engine does
-pub mod EngineLaws
--- the two engines give equal answers and leave equal contents
-pub mod Same

@@ -6,7 +6,7 @@ use Rattle.registers.specs.Lists.{Listed}
 use Rattle.registers.specs.ListLaws.{lists_same, list_plain}
 use Rattle.marks_c.specs.Calls.{Listed as ListedMarked}
 use Rattle.marks_c.specs.CallLaws.{marks_same, marked_plain}
-use Rattle.pencil.specs.EngineLaws.{pencil_effect}
+use Rattle.pencil.proofs.EngineLaws.{pencil_effect}
 use Rattle.pencil_c.specs.Calls.{pencil_call, pencil_marked_call}
 
 module _ (s : Registers) (e : s.persistent ≡ 0) where

@@ -5,7 +5,7 @@ use Rattle.registers.specs.Lists.{list_call}
 use Rattle.registers.specs.ListLaws.{lists_same}
 use Rattle.marks_c.specs.Calls.{marked_call}
 use Rattle.marks_c.specs.CallLaws.{marks_same}
-use Rattle.pencil.specs.EngineLaws.{pencil_effect}
+use Rattle.pencil.proofs.EngineLaws.{pencil_effect}
 use Rattle.pencil_c.specs.Calls.{pencil_call, pencil_marked_call}
 
 -- on every state that C can hand over, also one that no `Vram` can be

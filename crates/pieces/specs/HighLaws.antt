@@ -7,7 +7,7 @@ use mathlib.Core.List.{List, [], ◌∷◌, ◌++◌}
 use Rattle.std.proofs.Math.ListN.{length}
 use Rattle.vram.specs.Board.{Board, effect}
 use Rattle.vram.specs.High.{Twins}
-use Rattle.vram.specs.HighLaws.{agree_length, effect_twins, step_twins}
+use Rattle.vram.proofs.HighLaws.{agree_length, effect_twins, step_twins}
 use Rattle.list.specs.declared.Bad.{Bad}
 use Rattle.list.specs.declared.Open.{Open}
 use Rattle.list.specs.Fields.{Field, Reads, Unreadable, field_of, size_of}

@@ -10,7 +10,7 @@ use Rattle.numbers.specs.Between.{both}
 use Rattle.refusals.specs.Refusal.{refusing}
 use Rattle.list.specs.declared.Open.{Open}
 use Rattle.list.specs.Waits.{waits}
-use Rattle.list.specs.WaitsLaws.{waits_few}
+use Rattle.list.proofs.WaitsLaws.{waits_few}
 use Rattle.pieces.specs.declared.Pieces.{Pieces}
 use Rattle.pieces.specs.Line.{Line, line, refused, limit}
 use Rattle.pieces.specs.Pieces.{pad, pack, unpack, all_zero, before, is_none, going, stopped, possible, sound}

@@ -5,12 +5,12 @@ use Rattle.std.proofs.lemmas.Bool.{eqb-false}
 use Rattle.list.specs.declared.Bad.{Bad}
 use Rattle.list.specs.Tags.{len_of}
 use Rattle.list.specs.Fields.{Field, Unreadable, tag, whole, field_of, fields}
-use Rattle.list.specs.FieldLaws.{tag_append, whole_length, field_not, fields_nil, fields_whole, fields_not}
+use Rattle.list.proofs.FieldLaws.{tag_append, whole_length, field_not, fields_nil, fields_whole, fields_not}
 use Rattle.list.specs.Meaning.{number_of, made_by, bad, verdict}
-use Rattle.list.specs.VerdictLaws.{size_whole, number_not, verdict_nil, verdict_good, verdict_bad}
-use Rattle.list.specs.MoreLaws.{place_least}
+use Rattle.list.proofs.VerdictLaws.{size_whole, number_not, verdict_nil, verdict_good, verdict_bad}
+use Rattle.list.proofs.MoreLaws.{place_least}
 use Rattle.list.specs.Waits.{waits}
-use Rattle.list.specs.WaitsLaws.{settled_whole, settled_append, waits_less}
+use Rattle.list.proofs.WaitsLaws.{settled_whole, settled_append, waits_less}
 use Rattle.pieces.specs.Meant.{passing}
 
 -- ---- the first field stays what it is where bytes after it are left out

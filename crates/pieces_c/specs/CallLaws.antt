@@ -15,7 +15,7 @@ use Rattle.registers.specs.StateLaws.{handed_taken, taken_handed, handed_lawful}
 use Rattle.pieces.specs.declared.Pieces.{Pieces as Below}
 use Rattle.pieces.specs.declared.Taken.{Taken as BelowTaken}
 use Rattle.pieces.specs.Calls.{Outcome, gives, outcome, first_number, take_call as below_take, end_call as below_end}
-use Rattle.pieces.specs.Refused.{first_nothing}
+use Rattle.pieces.proofs.Refused.{first_nothing}
 use Rattle.pieces_c.specs.declared.Pieces.{Pieces}
 use Rattle.pieces_c.specs.declared.Taken.{Taken}
 use Rattle.pieces_c.specs.Line.{line_lawful, taken_line, handed_by, handed_line, handed_below_taken, excluded_taken}

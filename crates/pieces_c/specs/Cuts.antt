@@ -7,7 +7,7 @@ use Rattle.vram.specs.declared.Vram.{Vram}
 use Rattle.vram.specs.Board.{board, effect}
 use Rattle.list.specs.declared.Bad.{Bad}
 use Rattle.list.specs.Meaning.{bad, verdict_of, run_call}
-use Rattle.list.specs.CallLaws.{call_given}
+use Rattle.list.proofs.CallLaws.{call_given}
 use Rattle.registers.specs.declared.Registers.{Registers}
 use Rattle.registers.specs.State.{lawful, taken, handed}
 use Rattle.registers.specs.StateLaws.{handed_taken}
@@ -18,9 +18,9 @@ use Rattle.pieces.specs.Line.{fresh, limit}
 use Rattle.pieces.specs.Pieces.{pack}
 use Rattle.pieces.specs.Calls.{gives, take_call as below_take}
 use Rattle.pieces.specs.Cutting.{ends as below_ends, cut_call as below_cut}
-use Rattle.pieces.specs.CutLaws.{ends_none as below_none, ends_next as below_next}
-use Rattle.pieces.specs.Cuts.{cut_verdict, cut_accepted}
-use Rattle.pieces.specs.Over.{accepted_fits}
+use Rattle.pieces.proofs.CutLaws.{ends_none as below_none, ends_next as below_next}
+use Rattle.pieces.proofs.Cuts.{cut_verdict, cut_accepted}
+use Rattle.pieces.proofs.Over.{accepted_fits}
 use Rattle.pieces_c.specs.declared.Pieces.{Pieces}
 use Rattle.pieces_c.specs.Line.{line_lawful, handed_line, excluded_taken}
 use Rattle.pieces_c.specs.Calls.{Answered, answered, answer_of}

@@ -11,8 +11,8 @@ use Rattle.pieces.specs.declared.Pieces.{Pieces as Below}
 use Rattle.pieces.specs.Line.{fresh}
 use Rattle.pieces.specs.Pieces.{pack, unpack, sound}
 use Rattle.pieces.specs.PackLaws.{Sound, sound_pack, made_sound}
-use Rattle.pieces.specs.KeepLaws.{fresh_possible}
-use Rattle.pieces.specs.Reach.{Take as BelowTake, End as BelowEnd, call_keeps}
+use Rattle.pieces.proofs.KeepLaws.{fresh_possible}
+use Rattle.pieces.proofs.Reach.{Take as BelowTake, End as BelowEnd, call_keeps}
 use Rattle.pieces_c.specs.declared.Pieces.{Pieces}
 use Rattle.pieces_c.specs.Line.{line_lawful, taken_line, handed_line}
 use Rattle.pieces_c.specs.Calls.{Answered, take_call, end_call}

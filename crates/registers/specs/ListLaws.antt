@@ -10,8 +10,8 @@ use Rattle.vram.specs.Board.{Board, board, effect}
 use Rattle.vram.specs.Step.{Engine}
 use Rattle.list.specs.declared.Ran.{Ran as ListRan}
 use Rattle.list.specs.Meaning.{Outcome, outcome, run_call_by, run_call}
-use Rattle.list.specs.CallLaws.{call_given_by, call_refuses_by, calls_same}
-use Rattle.list.specs.PersistLaws.{call_plain}
+use Rattle.list.proofs.CallLaws.{call_given_by, call_refuses_by, calls_same}
+use Rattle.list.proofs.PersistLaws.{call_plain}
 use Rattle.registers.specs.declared.Registers.{Registers}
 use Rattle.registers.specs.declared.Ran.{Ran}
 use Rattle.registers.specs.State.{lawful, taken, handed, handed_ran, excluded_ran}

@@ -4,9 +4,9 @@ use Rattle.std.proofs.Common.{sym, subst}
 use Rattle.vram.specs.State.{fresh}
 use Rattle.planner.specs.Fill.{fill}
 use Rattle.planner.specs.Calls.{fill_call}
-use Rattle.planner.specs.AfterList.{plain_13}
+use Rattle.planner.proofs.AfterList.{plain_13}
 use Rattle.page.specs.Calls.{page_call}
-use Rattle.page.specs.CallLaws.{page_13}
+use Rattle.page.proofs.CallLaws.{page_13}
 use Rattle.registers.specs.declared.Registers.{Registers}
 use Rattle.registers.specs.State.{handed}
 use Rattle.registers.specs.StateLaws.{handed_plain}

@@ -28,35 +28,13 @@ pub mod RefusalLaws
 pub mod StepLaws
 -- what a cycle writes, as data
 pub mod Writes
--- what it sets and copies, as data
-pub mod Sets
--- writes and loads, bit by bit
-pub mod CycleLaws
--- what a cycle leaves, by its tag
-pub mod KeptLaws
--- transfers, word by word
-pub mod TransferLaws
--- a cycle changes nothing at which it does not aim
-pub mod AimLaws
 -- the lengths of a partition, and the stop points that they ask for
 pub mod StopLaws
 -- what the arithmetic needs of a partition's length
 pub mod Partition
 -- the pointer's motion
 pub mod SerialLaws
--- lengths, the width of words, rows and the state's rule are kept
-pub mod RuleLaws
--- at length 128 the motion is document 01's
-pub mod HalfLaws
--- of the calls that move the serial port
-pub mod CallLaws
--- the definitions case by case, for other crates
-pub mod CaseLaws
 -- boards that differ in low bytes alone, and cycles that reach no high byte
 pub mod High
--- high bytes depend on high bytes
-pub mod HighLaws
--- writes of results alone leave every mark
-pub mod SpareLaws
 -- the sheet's worked block write, and its table of stop points
 pub mod Sheet

@@ -1,5 +1,5 @@
 -- `host::linkshoar_panel_run` meets its contract. Assumes nothing.
-use Rattle.panel.specs.PartLaws.{eight_rule}
+use Rattle.panel.proofs.PartLaws.{eight_rule}
 use borrow.Author.Rules.{rules}
 use Rattle.host.proofs.linkshoar_panel_run.Goals as goal
 

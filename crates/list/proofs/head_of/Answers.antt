@@ -6,9 +6,9 @@ use native.Mathlib.Omega.{arith}
 use Rattle.list.specs.declared.Head.TheVariants.{Whole}
 use Rattle.list.specs.Tags.{cycle_of}
 use Rattle.list.specs.Fields.{tag}
-use Rattle.list.specs.FieldLaws.{whole_length}
-use Rattle.list.specs.WaitsLaws.{settled_long}
-use Rattle.list.specs.HeadLaws.{head_waits, head_whole, head_wrong}
+use Rattle.list.proofs.FieldLaws.{whole_length}
+use Rattle.list.proofs.WaitsLaws.{settled_long}
+use Rattle.list.proofs.HeadLaws.{head_waits, head_whole, head_wrong}
 use Rattle.list.proofs.Turns.{body_part}
 use borrow.Author.Rules.{rules}
 use Rattle.list.proofs.head_of.Goals as goal

@@ -2,7 +2,7 @@
 use mathlib.Core.Path.{sym, ap, ◌∙◌}
 use Prim.Native.Nat.{ℕ, ◌*◌}
 use native.Mathlib.Omega.{arith}
-use Rattle.list.specs.SplitLaws.{word_past, word_last}
+use Rattle.list.proofs.SplitLaws.{word_past, word_last}
 use borrow.Author.Rules.{rules}
 use Rattle.list.proofs.number_at.Goals as goal
 

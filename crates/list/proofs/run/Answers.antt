@@ -4,8 +4,8 @@ use Rattle.vram.specs.Board.{board, effect}
 use Rattle.list.specs.declared.Bad.{Bad}
 use Rattle.list.specs.declared.Open.TheVariants.{None}
 use Rattle.list.specs.Meaning.{gives}
-use Rattle.list.specs.CallLaws.{judged_readable}
-use Rattle.list.specs.OutLaws.{given_out, refused_out, done_out, checked_out}
+use Rattle.list.proofs.CallLaws.{judged_readable}
+use Rattle.list.proofs.OutLaws.{given_out, refused_out, done_out, checked_out}
 use borrow.Author.Rules.{rules}
 use Rattle.list.proofs.run.Goals as goal
 

@@ -1,7 +1,7 @@
 -- `list::sized` meets its contract. Assumes nothing.
 use mathlib.Core.Path.{sym}
 use native.Mathlib.Omega.{arith}
-use Rattle.list.specs.SplitLaws.{sized_is, sized_short}
+use Rattle.list.proofs.SplitLaws.{sized_is, sized_short}
 use borrow.Author.Rules.{rules}
 use Rattle.list.proofs.sized.Goals as goal
 

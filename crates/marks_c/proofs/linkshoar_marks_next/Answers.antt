@@ -2,7 +2,7 @@
 use mathlib.Core.Path.{sym}
 use Rattle.marks.specs.declared.Found.TheVariants.{None, Row}
 use Rattle.marks.specs.Calls.{values}
-use Rattle.marks.specs.CallLaws.{values_none, values_row}
+use Rattle.marks.proofs.CallLaws.{values_none, values_row}
 use Rattle.marks_c.specs.CallLaws.{next_handed}
 use borrow.Author.Rules.{rules}
 use Rattle.marks_c.proofs.linkshoar_marks_next.Goals as goal

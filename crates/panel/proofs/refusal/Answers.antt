@@ -3,7 +3,7 @@ use mathlib.Core.Path.{ap, ◌∙◌}
 use Rattle.numbers.specs.RefuseLaws.{first_of_is}
 use Rattle.vram.specs.declared.Moved.{Moved}
 use Rattle.panel.specs.Calls.{run_refusal}
-use Rattle.vram.specs.CallLaws.{clocks_number}
+use Rattle.vram.proofs.CallLaws.{clocks_number}
 use borrow.Author.Rules.{rules}
 use Rattle.panel.proofs.refusal.Goals as goal
 

@@ -1,7 +1,7 @@
 -- `panel::run_at` meets its contract. Assumes nothing.
 use mathlib.Core.Path.{sym, ◌∙◌}
 use lib.ListN.{length}
-use Rattle.panel.specs.CallLaws.{run_zero, run_refuses, run_acts}
+use Rattle.panel.proofs.CallLaws.{run_zero, run_refuses, run_acts}
 use borrow.Author.Rules.{rules}
 use Rattle.panel.proofs.run_at.Goals as goal
 

@@ -1,7 +1,7 @@
 -- `pencil::run` meets its contract. Assumes nothing.
 use Rattle.vram.specs.Board.{board}
 use Rattle.list.specs.Meaning.{outcome}
-use Rattle.list.specs.OutLaws.{given_out, checked_out}
+use Rattle.list.proofs.OutLaws.{given_out, checked_out}
 use Rattle.pencil.specs.Pencil.{pencil}
 use borrow.Author.Rules.{rules}
 use Rattle.pencil.proofs.run.Goals as goal

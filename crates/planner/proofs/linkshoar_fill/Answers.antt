@@ -4,9 +4,9 @@ use mathlib.Core.Path.{◌∙◌}
 use Prim.Native.Nat.{◌-◌}
 use native.Mathlib.Omega.{arith}
 use Rattle.planner.specs.Fill.{fill}
-use Rattle.planner.specs.AsDemanded.{with_demand}
-use Rattle.planner.specs.CallLaws.{asked_sound, fill_refuses, fill_nothing, some_columns, fill_words, fill_blocks}
-use Rattle.planner.specs.ShapeLaws.{says_any}
+use Rattle.planner.proofs.AsDemanded.{with_demand}
+use Rattle.planner.proofs.CallLaws.{asked_sound, fill_refuses, fill_nothing, some_columns, fill_words, fill_blocks}
+use Rattle.planner.proofs.ShapeLaws.{says_any}
 use Rattle.planner.proofs.linkshoar_fill.Goals as goal
 
 pub overflow_sub-end_row : goal.overflow_sub-end_row

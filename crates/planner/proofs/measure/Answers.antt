@@ -3,7 +3,7 @@ use borrow.Author.Rules.{rules}
 use native.Mathlib.Omega.{arith}
 use Rattle.planner.specs.Fill.{fill}
 use Rattle.planner.specs.Shapes.{shape_answer}
-use Rattle.planner.specs.ShapeLaws.{says_any, answer_refused, answer_nothing, answer_words, answer_blocks, words_most, blocks_most}
+use Rattle.planner.proofs.ShapeLaws.{says_any, answer_refused, answer_nothing, answer_words, answer_blocks, words_most, blocks_most}
 use Rattle.planner.proofs.measure.Goals as goal
 
 pub overflow_mul-result : goal.overflow_mul-result

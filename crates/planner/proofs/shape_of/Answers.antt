@@ -5,8 +5,8 @@ use Prim.Native.Nat.{ℕ, ◌-◌, ◌*◌}
 use native.Mathlib.Omega.{arith}
 use Rattle.planner.specs.Fill.{fill}
 use Rattle.planner.specs.Calls.{asked_refusal}
-use Rattle.planner.specs.CallLaws.{asked_any, asked_sound}
-use Rattle.planner.specs.ShapeLaws.{shape_refused, shape_nothing, shape_words, shape_blocks}
+use Rattle.planner.proofs.CallLaws.{asked_any, asked_sound}
+use Rattle.planner.proofs.ShapeLaws.{shape_refused, shape_nothing, shape_words, shape_blocks}
 use Rattle.planner.proofs.shape_of.Goals as goal
 
 pub returns-then-number-ne-DONE : goal.returns-then-number-ne-DONE

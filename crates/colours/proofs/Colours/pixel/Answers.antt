@@ -3,7 +3,7 @@ use mathlib.Core.Path.{sym, ap, ◌∙◌}
 use Rattle.colours.specs.declared.Asked.{Asked}
 use Rattle.colours.specs.State.{moved}
 use Rattle.colours.specs.Calls.{emitted}
-use Rattle.colours.specs.CallLaws.{pixel_number, ask_zero, emitted_refused, emitted_done}
+use Rattle.colours.proofs.CallLaws.{pixel_number, ask_zero, emitted_refused, emitted_done}
 use borrow.Author.Rules.{rules}
 use Rattle.colours.proofs.Colours.pixel.Goals as goal
 

@@ -3,7 +3,7 @@ use mathlib.Core.Path.{refl, sym, ◌∙◌}
 use native.Mathlib.Omega.{arith}
 use lib.ListN.{length}
 use Rattle.colours.specs.Calls.{write_refusal, write_call}
-use Rattle.colours.specs.CallLaws.{write_zero, written_refused, written_done}
+use Rattle.colours.proofs.CallLaws.{write_zero, written_refused, written_done}
 use borrow.Author.Rules.{rules}
 use Rattle.colours.proofs.Colours.write.Goals as goal
 

@@ -5,7 +5,7 @@ use native.Mathlib.Omega.{arith}
 use lib.ListN.{length, set}
 use Rattle.colours.specs.Table.{joined}
 use Rattle.colours.specs.Calls.{high_refusal, write_high_call}
-use Rattle.colours.specs.CallLaws.{high_zero, written_refused, written_done}
+use Rattle.colours.proofs.CallLaws.{high_zero, written_refused, written_done}
 use borrow.Author.Rules.{rules}
 use Rattle.colours.proofs.Colours.write_high.Goals as goal
 

@@ -4,7 +4,7 @@ use lib.ListN.{length}
 use Rattle.numbers.specs.RefuseLaws.{refused_is, done_is}
 use Rattle.colours.specs.Output.{asks}
 use Rattle.colours.specs.Calls.{read_refusal, asked_for, ask_call}
-use Rattle.colours.specs.CallLaws.{read_zero}
+use Rattle.colours.proofs.CallLaws.{read_zero}
 use borrow.Author.Rules.{rules}
 use Rattle.colours.proofs.asks.ask.Goals as goal
 

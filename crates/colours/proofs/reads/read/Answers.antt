@@ -3,7 +3,7 @@ use mathlib.Core.Path.{sym, ◌∙◌}
 use lib.ListN.{length}
 use Rattle.numbers.specs.RefuseLaws.{refused_is, done_is}
 use Rattle.colours.specs.Calls.{read_refusal, worded, read_call}
-use Rattle.colours.specs.CallLaws.{read_zero}
+use Rattle.colours.proofs.CallLaws.{read_zero}
 use borrow.Author.Rules.{rules}
 use Rattle.colours.proofs.reads.read.Goals as goal
 

@@ -1,8 +1,8 @@
 -- `list::checks::field_number` meets its contract. Assumes nothing.
 use mathlib.Core.Path.{sym, ◌∙◌}
 use native.Mathlib.Omega.{arith}
-use Rattle.list.specs.VerdictLaws.{number_not}
-use Rattle.list.specs.FieldLaws.{whole_length}
+use Rattle.list.proofs.VerdictLaws.{number_not}
+use Rattle.list.proofs.FieldLaws.{whole_length}
 use Rattle.list.proofs.Turns.{number_of_body}
 use borrow.Author.Rules.{rules}
 use Rattle.list.proofs.checks.field_number.Goals as goal

@@ -1,7 +1,7 @@
 -- `list::fields::whole` meets its contract. Assumes nothing.
 use mathlib.Core.Path.{sym, ◌∙◌}
 use native.Mathlib.Omega.{arith}
-use Rattle.list.specs.FieldLaws.{whole_is, whole_short}
+use Rattle.list.proofs.FieldLaws.{whole_is, whole_short}
 use borrow.Author.Rules.{rules}
 use Rattle.list.proofs.fields.whole.Goals as goal
 

@@ -1,6 +1,6 @@
 -- `list::left::first_bad` meets its contract. Assumes nothing.
 use mathlib.Core.Path.{sym}
-use Rattle.list.specs.JudgeLaws.{bad_first, bad_later}
+use Rattle.list.proofs.JudgeLaws.{bad_first, bad_later}
 use Rattle.list.proofs.left.first_bad.Goals as goal
 
 pub returns-then-first-eq-DONE : goal.returns-then-first-eq-DONE

@@ -4,7 +4,7 @@ use Prim.Native.Nat.{◌-◌, ◌≤◌}
 use native.Mathlib.Omega.{arith}
 use borrow.Author.Rules.{rules}
 use Rattle.marks.specs.Marks.{first_marked}
-use Rattle.marks.specs.NextLaws.{first_none}
+use Rattle.marks.proofs.NextLaws.{first_none}
 use Rattle.marks.proofs.Turns.{found, turn_row, turn_byte}
 use Rattle.marks.proofs.rows.first_from.Goals as goal
 

@@ -2,7 +2,7 @@
 use mathlib.Core.Path.{ap, ◌∙◌}
 use Prim.Native.Nat.{ℕ}
 use native.Mathlib.Omega.{arith}
-use Rattle.list.specs.FieldLaws.{whole_length}
+use Rattle.list.proofs.FieldLaws.{whole_length}
 use Rattle.marks.specs.Marks.{mark}
 use Rattle.marks.proofs.Turns.{mark_write, mark_none}
 use borrow.Author.Rules.{rules}

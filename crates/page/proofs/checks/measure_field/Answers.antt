@@ -2,7 +2,7 @@
 use mathlib.Core.Path.{sym, ap, ◌∙◌}
 use native.Mathlib.Omega.{arith}
 use Rattle.planner.specs.Calls.{measure_call}
-use Rattle.planner.specs.ShapeLaws.{measure_any}
+use Rattle.planner.proofs.ShapeLaws.{measure_any}
 use Rattle.page.specs.declared.Rectangle.{Rectangle}
 use Rattle.page.specs.Rectangles.{fill_of}
 use Rattle.page.specs.RectangleLaws.{whole_length, item_whole, item_not}

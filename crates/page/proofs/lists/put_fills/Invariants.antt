@@ -4,7 +4,7 @@ use Prim.Native.Nat.{◌≤◌, ◌+◌, ◌-◌}
 use native.Mathlib.Omega.{arith}
 use lib.ListN.{length}
 use lib.Seq.{sets}
-use Rattle.list.specs.EncodeLaws.{count_within}
+use Rattle.list.proofs.EncodeLaws.{count_within}
 use Rattle.page.specs.Rectangles.{items}
 use Rattle.page.specs.Calls.{fills_of, joined, plans, verdict}
 use Rattle.page.proofs.Turns.{rest_less, put_fits, put_accepted, put_at, put_count, put_length, put_list, end_put}

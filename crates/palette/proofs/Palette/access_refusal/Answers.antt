@@ -2,7 +2,7 @@
 use Rattle.std.proofs.Common.{sym, ◌∙◌, rules}
 use borrow.Author.Tests.{not-true, not-false}
 use Rattle.palette.specs.State.{ruled}
-use Rattle.palette.specs.CallLaws.{access_1, access_3, access_11, access_0}
+use Rattle.palette.proofs.CallLaws.{access_1, access_3, access_11, access_0}
 use Rattle.palette.proofs.Palette.access_refusal.Goals as goal
 
 pub returns-then-not-ruled : goal.returns-then-not-ruled

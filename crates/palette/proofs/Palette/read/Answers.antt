@@ -1,6 +1,6 @@
 -- `palette::Palette::read` meets its contract. Assumes nothing.
 use Rattle.std.proofs.Common.{length, sym, ◌∙◌, rules}
-use Rattle.palette.specs.CallLaws.{access_zero, read_refused, read_done}
+use Rattle.palette.proofs.CallLaws.{access_zero, read_refused, read_done}
 use Rattle.palette.proofs.Palette.read.Goals as goal
 
 pub returns-then-n-ne-DONE : goal.returns-then-n-ne-DONE

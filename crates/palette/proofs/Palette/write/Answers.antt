@@ -1,6 +1,6 @@
 -- `palette::Palette::write` meets its contract. Assumes nothing.
 use Rattle.std.proofs.Common.{length, sym, ◌∙◌, rules}
-use Rattle.palette.specs.CallLaws.{access_zero, write_refused, write_done}
+use Rattle.palette.proofs.CallLaws.{access_zero, write_refused, write_done}
 use Rattle.palette.proofs.Palette.write.Goals as goal
 
 pub returns-then-n-ne-DONE : goal.returns-then-n-ne-DONE

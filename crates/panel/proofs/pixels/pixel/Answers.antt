@@ -1,7 +1,7 @@
 -- `panel::pixels::pixel` meets its contract. Assumes nothing.
 use native.Mathlib.Omega.{arith}
 use Rattle.words.specs.WordLaws.{high_is}
-use Rattle.panel.specs.PixelLaws.{the_mark, the_result, reverse_is}
+use Rattle.panel.proofs.PixelLaws.{the_mark, the_result, reverse_is}
 use Rattle.panel.proofs.pixels.pixel.Goals as goal
 
 pub returns-then-word-ge65280 : goal.returns-then-word-ge65280

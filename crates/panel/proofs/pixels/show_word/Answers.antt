@@ -4,7 +4,7 @@ use native.Mathlib.Omega.{arith}
 use Prim.Native.Nat.{ℕ, ◌+◌, ◌%◌, ◌<◌}
 use lib.ListN.{length-set, get_or}
 use Rattle.panel.specs.Panel.{part_at, panel_of}
-use Rattle.panel.specs.PartLaws.{part_byte}
+use Rattle.panel.proofs.PartLaws.{part_byte}
 use Rattle.panel.proofs.Stores.{three_stores}
 use Rattle.panel.proofs.Two.{two_back}
 use borrow.Author.Rules.{rules}

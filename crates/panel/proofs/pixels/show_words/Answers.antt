@@ -12,7 +12,7 @@ use lib.ListN.{length, take}
 use lib.Seq.{take_all}
 use Rattle.panel.specs.Panel.{part_at, panel_of, bytes_of}
 use Rattle.numbers.specs.Buffer.{over}
-use Rattle.panel.specs.PanelLaws.{over_word}
+use Rattle.panel.proofs.PanelLaws.{over_word}
 use Rattle.panel.proofs.pixels.show_words.Goals as goal
 
 pub loop-i-init : goal.loop-i-init

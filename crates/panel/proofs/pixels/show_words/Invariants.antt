@@ -12,7 +12,7 @@ use lib.ListN.{length, take}
 use lib.Seq.{take_all}
 use Rattle.panel.specs.Panel.{part_at, panel_of, bytes_of}
 use Rattle.numbers.specs.Buffer.{over}
-use Rattle.panel.specs.PanelLaws.{over_word}
+use Rattle.panel.proofs.PanelLaws.{over_word}
 use Rattle.panel.proofs.pixels.show_words.Given as goal
 
 abbrev pub invariant-loop-i : goal.invariant-loop-i

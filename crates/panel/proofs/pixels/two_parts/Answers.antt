@@ -4,7 +4,7 @@ use Prim.Native.Nat.{ℕ, ◌+◌, ◌*◌, ◌/◌, ◌%◌}
 use native.Mathlib.Omega.{arith}
 use Rattle.panel.specs.declared.Width.{Width}
 use Rattle.panel.specs.Panel.{part_at}
-use Rattle.panel.specs.PartLaws.{at_six, at_eight}
+use Rattle.panel.proofs.PartLaws.{at_six, at_eight}
 use Rattle.panel.proofs.Two.{six_bits, top_two}
 use borrow.Author.Rules.{rules}
 use Rattle.panel.proofs.pixels.two_parts.Goals as goal

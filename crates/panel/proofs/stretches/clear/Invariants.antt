@@ -1,7 +1,7 @@
 -- `panel::stretches::clear` meets its contract: one zero more at each turn. Assumes nothing.
 use borrow.Author.Rules.{rules}
 use Prim.Native.Nat.{ℕ, ◌≤◌, ◌-◌}
-use Rattle.panel.specs.PanelLaws.{over_zero, zeros_size}
+use Rattle.panel.proofs.PanelLaws.{over_zero, zeros_size}
 use mathlib.Core.Path.{◌≡◌, refl, ap, ◌∙◌}
 use native.Mathlib.Omega.{arith}
 use Rattle.panel.specs.Panel.{zeros}

@@ -5,7 +5,7 @@ use Prim.Native.Nat.{ℕ, ◌≤◌, ◌-◌}
 use native.Mathlib.Omega.{arith}
 use Rattle.panel.specs.Panel.{part_at, panel_of, shown}
 use Rattle.numbers.specs.Buffer.{over}
-use Rattle.panel.specs.PanelLaws.{over_none}
+use Rattle.panel.proofs.PanelLaws.{over_none}
 use Rattle.panel.proofs.Stretch.{one_turn}
 use Rattle.panel.proofs.stretches.show.Goals as goal
 

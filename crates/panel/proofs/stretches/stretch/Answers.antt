@@ -9,7 +9,7 @@ use Rattle.vram.specs.declared.Moved.{Moved}
 use Rattle.vram.specs.Serial.{through, clocks as moved, clocked_words}
 use Rattle.vram.specs.Calls.{clocks_refusal, clocks_call}
 use Rattle.vram.specs.SerialLaws.{through_within}
-use Rattle.vram.specs.CallLaws.{clocks_moves, clocks_leads, clocks_fewer}
+use Rattle.vram.proofs.CallLaws.{clocks_moves, clocks_leads, clocks_fewer}
 use Rattle.panel.specs.Panel.{part_at, panel_of, bytes_of}
 use Rattle.numbers.specs.Buffer.{over}
 use Rattle.panel.proofs.Stretch.{one_stretch}

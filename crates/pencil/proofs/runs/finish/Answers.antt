@@ -1,6 +1,6 @@
 -- `pencil::runs::finish` meets its contract. Assumes nothing.
 use Rattle.vram.specs.Board.{board}
-use Rattle.list.specs.OutLaws.{refused_out, done_out}
+use Rattle.list.proofs.OutLaws.{refused_out, done_out}
 use Rattle.pencil.specs.Pencil.{pencil}
 use borrow.Author.Rules.{rules}
 use Rattle.pencil.proofs.runs.finish.Goals as goal

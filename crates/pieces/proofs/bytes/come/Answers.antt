@@ -2,7 +2,7 @@
 use mathlib.Core.Path.{sym, ◌∙◌}
 use native.Mathlib.Omega.{arith}
 use Rattle.pieces.specs.Line.{limit}
-use Rattle.pieces.specs.ByteLaws.{come_holds, come_moves}
+use Rattle.pieces.proofs.ByteLaws.{come_holds, come_moves}
 use borrow.Author.Rules.{rules}
 use Rattle.pieces.proofs.bytes.come.Goals as goal
 

@@ -1,7 +1,7 @@
 -- `pieces::bytes::feed` meets its contract. Assumes nothing.
 use native.Mathlib.Omega.{arith}
 use Rattle.pieces.specs.Line.{limit}
-use Rattle.pieces.specs.ByteLaws.{fed_refused, fed_over, fed_few, fed_held, fed_come}
+use Rattle.pieces.proofs.ByteLaws.{fed_refused, fed_over, fed_few, fed_held, fed_come}
 use borrow.Author.Rules.{rules}
 use Rattle.pieces.proofs.bytes.feed.Goals as goal
 

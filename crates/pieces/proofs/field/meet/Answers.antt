@@ -1,6 +1,6 @@
 -- `pieces::field::meet` meets its contract. Assumes nothing.
 use mathlib.Core.Path.{sym, ◌∙◌}
-use Rattle.pieces.specs.TurnLaws.{meets_waits, meets_wrong, meets_refused, meets_run, whole_some}
+use Rattle.pieces.proofs.TurnLaws.{meets_waits, meets_wrong, meets_refused, meets_run, whole_some}
 use borrow.Author.Rules.{rules}
 use Rattle.pieces.proofs.field.meet.Goals as goal
 

@@ -1,6 +1,6 @@
 -- `pieces::last::at_last` meets its contract. Assumes nothing.
 use mathlib.Core.Path.{sym, ◌∙◌}
-use Rattle.pieces.specs.LineLaws.{last_kept, last_cut, last_left}
+use Rattle.pieces.proofs.LineLaws.{last_kept, last_cut, last_left}
 use borrow.Author.Rules.{rules}
 use Rattle.pieces.proofs.last.at_last.Goals as goal
 

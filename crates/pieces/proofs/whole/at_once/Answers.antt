@@ -1,5 +1,5 @@
 -- `pieces::whole::at_once` meets its contract. Assumes nothing.
-use Rattle.pieces.specs.AlongLaws.{ready_possible, ready_along, along_none}
+use Rattle.pieces.proofs.AlongLaws.{ready_possible, ready_along, along_none}
 use borrow.Author.Rules.{rules}
 use Rattle.pieces.proofs.whole.at_once.Goals as goal
 

@@ -6,7 +6,7 @@ use lib.ListN.{length, length-drop}
 use Rattle.numbers.specs.BufferLaws.{tail_part}
 use Rattle.vram.specs.Board.{board}
 use Rattle.pieces.specs.Turns.{Along}
-use Rattle.pieces.specs.AlongLaws.{along_none, along_on, along_end}
+use Rattle.pieces.proofs.AlongLaws.{along_none, along_on, along_end}
 use borrow.Author.Rules.{rules}
 use Rattle.pieces.proofs.whole.take_all.Goals as goal
 

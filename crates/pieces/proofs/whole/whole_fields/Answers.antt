@@ -11,7 +11,7 @@ use Rattle.vram.specs.Board.{board}
 use Rattle.vram.specs.Step.{given_of}
 use Rattle.pieces.specs.Line.{line, port, limit, piece}
 use Rattle.pieces.specs.Pieces.{possible}
-use Rattle.pieces.specs.AlongLaws.{come_along, turn_inside, stay_possible, stay_same, turn_possible, turn_same, turn_some, turn_again}
+use Rattle.pieces.proofs.AlongLaws.{come_along, turn_inside, stay_possible, stay_same, turn_possible, turn_same, turn_some, turn_again}
 use borrow.Author.Rules.{rules}
 use Rattle.pieces.proofs.whole.whole_fields.Goals as goal
 

@@ -7,8 +7,8 @@ use native.Mathlib.Omega.{arith}
 use lib.Seq.{sets}
 use Rattle.numbers.specs.BufferLaws.{sets_append}
 use Rattle.planner.specs.Bytes.{load_bytes, columns_in, block_rows}
-use Rattle.planner.specs.PlanLaws.{block_bytes_length}
-use Rattle.planner.specs.CallLaws.{stored_short, stored_done}
+use Rattle.planner.proofs.PlanLaws.{block_bytes_length}
+use Rattle.planner.proofs.CallLaws.{stored_short, stored_done}
 use Rattle.planner.proofs.lists.put_blocks.Goals as goal
 
 pub returns-then-list-bytes : goal.returns-then-list-bytes

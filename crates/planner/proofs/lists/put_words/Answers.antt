@@ -3,8 +3,8 @@ use borrow.Author.Rules.{rules}
 use Prim.Native.Nat.{◌*◌}
 use native.Mathlib.Omega.{arith}
 use Rattle.planner.specs.Bytes.{word_rows}
-use Rattle.planner.specs.PlanLaws.{word_bytes_length}
-use Rattle.planner.specs.CallLaws.{stored_short, stored_done}
+use Rattle.planner.proofs.PlanLaws.{word_bytes_length}
+use Rattle.planner.proofs.CallLaws.{stored_short, stored_done}
 use Rattle.planner.proofs.lists.put_words.Goals as goal
 
 pub returns-then-list-bytes : goal.returns-then-list-bytes

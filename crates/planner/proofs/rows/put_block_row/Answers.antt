@@ -6,7 +6,7 @@ use Prim.Native.Nat.{ℕ, ◌+◌, ◌-◌, ◌*◌}
 use native.Mathlib.Omega.{arith}
 use lib.Seq.{sets}
 use Rattle.planner.specs.Bytes.{write_at, row_bytes}
-use Rattle.planner.specs.BytesLaws.{one_stored, more_stored}
+use Rattle.planner.proofs.BytesLaws.{one_stored, more_stored}
 use Rattle.planner.proofs.rows.put_block_row.Goals as goal
 
 pub returns-then-n-eq1 : goal.returns-then-n-eq1

@@ -8,7 +8,7 @@ use native.Mathlib.Omega.{arith}
 use lib.ListN.{length}
 use lib.Seq.{sets, length-sets}
 use Rattle.planner.specs.Bytes.{block_row, block_rows}
-use Rattle.planner.specs.BytesLaws.{block_rows_none, block_rows_more}
+use Rattle.planner.proofs.BytesLaws.{block_rows_none, block_rows_more}
 use Rattle.planner.proofs.rows.put_block_rows.Goals as goal
 
 pub loop-i-init : goal.loop-i-init

@@ -8,7 +8,7 @@ use native.Mathlib.Omega.{arith}
 use lib.ListN.{length}
 use lib.Seq.{sets, length-sets}
 use Rattle.planner.specs.Bytes.{row_bytes, word_rows}
-use Rattle.planner.specs.BytesLaws.{word_rows_none, word_rows_more}
+use Rattle.planner.proofs.BytesLaws.{word_rows_none, word_rows_more}
 use Rattle.planner.proofs.rows.put_word_rows.Goals as goal
 
 pub loop-i-init : goal.loop-i-init

@@ -8,7 +8,7 @@ use native.Mathlib.Nat.{mul-add, mul-one}
 use lib.ListN.{length}
 use lib.Seq.{sets, length-sets}
 use Rattle.planner.specs.Bytes.{write_at, row_bytes}
-use Rattle.planner.specs.BytesLaws.{row_none, row_more}
+use Rattle.planner.proofs.BytesLaws.{row_none, row_more}
 use Rattle.planner.proofs.writes.put_row.Goals as goal
 
 pub loop-i-init : goal.loop-i-init

@@ -5,7 +5,7 @@ use mathlib.Core.List.{List}
 use Prim.Native.Nat.{ℕ, ◌+◌}
 use lib.Seq.{sets}
 use Rattle.planner.specs.Bytes.{tag_bytes, rest_bytes}
-use Rattle.planner.specs.BytesLaws.{write_stored}
+use Rattle.planner.proofs.BytesLaws.{write_stored}
 use Rattle.planner.proofs.writes.put_write.Goals as goal
 
 pub returns : goal.returns
