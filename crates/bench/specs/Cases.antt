@@ -1,7 +1,8 @@
 -- The bench cases marked * in document 01, "Bench cases", in its order, the case of change request M-102 in document 02, and our own for
 -- M-107 and M-111: one list that holds them and no other. Assumes nothing.
 use Rattle.std.specs.Prelude.{ℕ, zero, suc, ◌%◌, ◌≡◌, Bool, true, false, length, take, replicate}
-use mathlib.Core.List.{List, [], ◌∷◌, ◌++◌, map, flatten}
+use Rattle.std.proofs.Common.{List, [], ◌∷◌, ◌++◌, map}
+use mathlib.Core.List.{flatten}
 use Rattle.vram.specs.declared.Vram.{Vram}
 use Rattle.vram.specs.declared.Cycle.{Cycle}
 use Rattle.vram.specs.declared.Cycle.TheVariants.{WordWrite, BlockWrite, LoadColour, ResetRefresh, FullTransfer, SplitTransfer, StopPoints}

@@ -1,9 +1,9 @@
 -- Which calls are accepted, and the ways out as the code has them: a call is refused and changes nothing, or is done. Assumes nothing.
 use Rattle.std.specs.Prelude.{◌≡◌, refl, Bool, false, ◌&&◌, cond, List, ◌≢◌, ℕ, ◌≤◌, eqb, length, set}
+use Rattle.std.proofs.Common.{leb-true, ne_eqb, le-leb}
 use Rattle.std.proofs.Math.Path.{ap}
 use Rattle.std.proofs.Math.Bool.{true}
 use Rattle.std.proofs.Math.Dec.{leb}
-use borrow.Author.Tests.{leb-true, ne_eqb, le-leb}
 use Rattle.numbers.specs.Between.{both}
 use Rattle.numbers.specs.Refuse.{leaves}
 use Rattle.numbers.specs.RefuseLaws.{refuse_zero}

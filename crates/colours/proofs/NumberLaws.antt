@@ -1,9 +1,9 @@
 -- The number that each call gives: 1, 3, 21, 22, in this order. Assumes nothing.
 use Rattle.std.specs.Prelude.{◌≡◌, Bool, false, ◌&&◌, List, ◌≢◌, ◌⊎◌, ℕ, ◌≤◌, ◌<◌, eqb, length}
 use Rattle.std.proofs.Math.Bool.{true, and-false}
-use Rattle.std.proofs.Common.{inl, inr, arith}
+use Rattle.std.proofs.Common.{inl, inr, arith, eqb-true, ne_eqb, le-leb}
 use Rattle.std.proofs.Math.Dec.{leb}
-use borrow.Author.Tests.{eqb-true, ne_eqb, le-leb, lt-leb}
+use borrow.Author.Tests.{lt-leb}
 use Rattle.numbers.specs.Refuse.{refuse}
 use Rattle.numbers.specs.RefuseLaws.{refuse_zero}
 use Rattle.colours.specs.declared.Colours.{Colours}

@@ -1,8 +1,7 @@
 -- The reads give back what was written, in 16 bits and in 8, and every other word reads as it did. Assumes nothing.
 use Rattle.std.specs.Prelude.{◌≡◌, ◌≢◌, ℕ, ◌%◌, ◌≤◌, ◌<◌, set}
 use Rattle.std.proofs.Math.Path.{refl}
-use Rattle.std.proofs.Common.{ap, ◌∙◌, arith, length-set, get_or-set_same, get_or-set_other}
-use mathlib.Core.List.{List}
+use Rattle.std.proofs.Common.{ap, ◌∙◌, arith, length-set, get_or-set_same, get_or-set_other, List}
 use Rattle.std.proofs.Math.ListN.{length, get_or}
 use Rattle.numbers.specs.RefuseLaws.{leaves_holds}
 use Rattle.colours.specs.declared.Colours.{Colours}

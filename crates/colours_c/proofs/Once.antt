@@ -1,5 +1,5 @@
 -- Each export's contract, as the compiler has it, requires nothing and determines the outcome. Assumes nothing.
-use mathlib.Core.Path.{refl}
+use Rattle.std.proofs.Common.{refl}
 use Rattle.numbers.specs.Determines.{Determines}
 use Rattle.numbers.specs.DeterminesLaws.{by_result, by_outcome}
 use Rattle.colours_c.specs.contracts.linkshoar_colours_fresh as fresh

@@ -1,13 +1,12 @@
 -- The delay, as C sees it: an accepted pixel answers the levels of what the third before it asked for. Assumes nothing.
-use Prim.Native.Nat.{ℕ, zero, suc, ◌+◌, ◌<◌}
 use Rattle.std.specs.Prelude.{◌≡◌, refl, true, false, List, [], ◌∷◌, map, length, get_or}
-use Rattle.std.proofs.Common.{sym, ◌∙◌, arith}
+use Rattle.std.proofs.Common.{sym, ◌∙◌, arith, ℕ, zero, suc, ◌+◌, ◌<◌}
 use Rattle.std.proofs.Math.Path.{ap}
 use Rattle.std.proofs.lemmas.List.{length-map}
 use Rattle.colours.specs.declared.Output.TheVariants.{Blank}
 use Rattle.colours.specs.State.{fresh, pipe}
 use Rattle.colours.proofs.StateLaws.{fresh_ruled}
-use Rattle.colours.specs.Session.{board, after, Passed, asked, passed}
+use Rattle.colours.specs.Session.{board, Passed, asked, passed}
 use Rattle.colours.proofs.Pipe.{mapped_at, first_three, three_later}
 use Rattle.colours_c.specs.declared.Held.{Held}
 use Rattle.colours_c.specs.declared.HeldLevels.{HeldLevels}

@@ -77,12 +77,7 @@ pub fn linkshoar_colours_fresh() -> Held
 }
 
 // A write of 16 bits.
-pub fn linkshoar_colours_write(
-    state: Held,
-    table: &mut [u16],
-    address: u32,
-    value: u32,
-) -> Coloured
+pub fn linkshoar_colours_write(state: Held, table: &mut [u16], address: u32, value: u32) -> Coloured
     ensures { outcome result table.new ≡ held_write state table.old address value }
 {
     if lawful(state) {

@@ -2,10 +2,9 @@
 -- Assumes nothing.
 use Rattle.std.specs.Prelude.{◌≡◌, ℕ, ◌<◌, true, false, not, ◌⊎◌, ℤ}
 use Rattle.std.proofs.Math.Path.{refl}
-use Rattle.std.proofs.Common.{sym, true≢false, arith}
+use Rattle.std.proofs.Common.{sym, true≢false, arith, leb-true}
 use Rattle.std.proofs.Math.Bool.{and-false, or-true}
 use Rattle.std.proofs.Math.Logic.{inl, inr}
-use borrow.Author.Tests.{leb-true}
 use Rattle.numbers.specs.Between.{both}
 use Rattle.controller.specs.declared.Controller.{Controller}
 use Rattle.controller.specs.State.{overrides, ruled}

@@ -88,12 +88,7 @@ pub fn linkshoar_controller_set_offset(state: Held, offset: u32) -> Controlled
 }
 
 // The Mode register whole.
-pub fn linkshoar_controller_set_mode(
-    state: Held,
-    cycles: u32,
-    page: u32,
-    update: u32,
-) -> Controlled
+pub fn linkshoar_controller_set_mode(state: Held, cycles: u32, page: u32, update: u32) -> Controlled
     ensures { result ≡ held_call (SetMode cycles page update) state }
 {
     if lawful(state) {

@@ -1,5 +1,5 @@
 -- Each export's contract, as the compiler has it, requires nothing and determines the outcome. Assumes nothing.
-use mathlib.Core.Path.{refl, sym, ap, ◌∙◌}
+use Rattle.std.proofs.Common.{refl, sym, ap, ◌∙◌}
 use Rattle.numbers.specs.Determines.{Determines}
 use Rattle.numbers.specs.DeterminesLaws.{by_result, by_outcome, by_first}
 use Rattle.host.specs.contracts.linkshoar_vram_fresh as vram_fresh

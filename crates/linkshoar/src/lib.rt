@@ -2,10 +2,10 @@
 // and no crate can stand on one: so each export calls the function of its name below and has its clauses again, and adds nothing.
 #![tactic(auto)]
 
+mod am8150;
+mod am8159;
 mod board;
-mod colours;
-mod controller;
-mod marks;
+mod lists_in_pieces;
 mod pages;
-mod pencil;
-mod pieces;
+mod plain_engine;
+mod row_marks;

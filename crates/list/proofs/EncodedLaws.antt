@@ -1,7 +1,7 @@
 -- Bytes that were written for cycles, as a planner needs them: byte by byte, joined, accepted and run. Assumes nothing.
 use Rattle.std.specs.Prelude.{◌≡◌, refl, Bool, ◌≢◌, ℕ, ◌+◌, ◌/◌, ◌%◌}
-use Rattle.std.proofs.Common.{sym, ap, ap₂, ◌∙◌}
-use mathlib.Core.List.{List, [], ◌∷◌, ◌++◌, map, append_assoc, Memᴰ}
+use Rattle.std.proofs.Common.{sym, ap, ap₂, ◌∙◌, List, [], ◌∷◌, ◌++◌, map, append_assoc}
+use mathlib.Core.List.{Memᴰ}
 use Rattle.vram.specs.declared.Cycle.{Cycle}
 use Rattle.vram.specs.declared.Cycle.TheVariants.{WordWrite, BlockWrite, LoadColour}
 use Rattle.vram.specs.Board.{Board}

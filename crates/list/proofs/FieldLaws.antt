@@ -1,11 +1,11 @@
 -- Laws of the splitting. What stands above cites these and not the recursion. Assumes nothing.
 use Rattle.std.specs.Prelude.{◌≡◌, Bool, List, [], ◌∷◌, ◌++◌, ℕ, zero, suc, ◌+◌, ◌*◌, ◌≤◌, ◌<◌, eqb, leb, get_or, drop}
 use Rattle.std.proofs.Math.Path.{refl}
-use Rattle.std.proofs.Common.{sym, ap, ap₂, ◌∙◌, arith, length-drop, get_or-take, get_or-drop}
+use Rattle.std.proofs.Common.{sym, ap, ap₂, ◌∙◌, arith, length-drop, get_or-take, get_or-drop, leb-true, le-leb, eqb-true}
 use Rattle.std.proofs.Math.Bool.{true, false}
 use Rattle.std.proofs.Math.ListN.{length, length-append, get_or-append}
 use Rattle.std.proofs.lemmas.List.{take-append-le, drop-append-le}
-use borrow.Author.Tests.{leb-true, le-leb, lt-leb, eqb-true}
+use borrow.Author.Tests.{lt-leb}
 use Rattle.numbers.specs.Between.{both}
 use Rattle.list.specs.Tags.{byte, word, known, len_of, cycle_of}
 use Rattle.list.specs.TagLaws.{len_most}

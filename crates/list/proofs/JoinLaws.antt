@@ -3,7 +3,7 @@ use Rattle.std.specs.Prelude.{◌≡◌, refl, Bool, true, false, cond, List, []
 use Rattle.std.proofs.Common.{sym, ap, ap₂, ◌∙◌, arith, add_assoc, add-zero, eqb-true}
 use Rattle.vram.specs.declared.Cycle.{Cycle}
 use Rattle.vram.specs.Board.{Board}
-use Rattle.vram.specs.Step.{given_of, rows_of, number, step, run}
+use Rattle.vram.specs.Step.{given_of, rows_of, step, run}
 use Rattle.vram.specs.StepLaws.{run_append}
 use Rattle.vram.proofs.KeptLaws.{step_loaded}
 use Rattle.vram.proofs.CaseLaws.{run_none, run_next, run_rows, run_given}

@@ -1,10 +1,8 @@
 -- What the tag table comes to, tag by tag. Assumes nothing.
 use Rattle.std.specs.Prelude.{◌≡◌, refl, Bool, true, false, ◌&&◌, ◌||◌, cond, List, ◌≢◌, eqb, leb}
 use Rattle.std.proofs.Math.Path.{sym}
-use Rattle.std.proofs.Common.{ap, ◌∙◌, true≢false}
-use Prim.Native.Nat.{ℕ, zero, suc, ◌≤◌, ◌<◌}
-use native.Mathlib.Omega.{arith}
-use borrow.Author.Tests.{leb-true, le-leb, lt-leb, ne_eqb, eqb-true}
+use Rattle.std.proofs.Common.{ap, ◌∙◌, true≢false, ℕ, zero, suc, ◌≤◌, ◌<◌, arith, leb-true, le-leb, ne_eqb, eqb-true}
+use borrow.Author.Tests.{lt-leb}
 use Rattle.numbers.specs.Between.{both}
 use Rattle.refusals.specs.Refusal.{write_refusal, load_refusal, full_refusal, split_refusal, stop_refusal}
 use Rattle.vram.specs.declared.Cycle.TheVariants.{WordWrite, BlockWrite}

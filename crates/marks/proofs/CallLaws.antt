@@ -1,9 +1,9 @@
 -- Laws of the calls: what refuses them, in order, and what they leave. Assumes nothing.
 use Rattle.std.specs.Prelude.{◌≡◌, false, List, ◌≢◌, ℕ, ◌-◌, ◌≤◌, ◌<◌, eqb, leb, length}
 use Rattle.std.proofs.Math.Path.{refl, sym, ap, ap₂}
-use Rattle.std.proofs.Common.{◌∙◌}
+use Rattle.std.proofs.Common.{◌∙◌, eq-eqb, ne_eqb, le-leb, eqb-true, leb-true}
 use Rattle.std.proofs.Math.Decide.{ℕ_discrete}
-use borrow.Author.Tests.{eq-eqb, ne_eqb, le-leb, lt-leb, eqb-true, leb-true}
+use borrow.Author.Tests.{lt-leb}
 use Rattle.numbers.specs.Refuse.{leaves}
 use Rattle.numbers.specs.RefuseLaws.{refuse_zero, first_of_zero, leaves_made, leaves_before}
 use Rattle.vram.specs.declared.Cycle.{Cycle}

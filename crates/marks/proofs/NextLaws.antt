@@ -1,12 +1,9 @@
 -- Laws of the first marked row from a row on. Assumes nothing.
 use Rattle.std.specs.Prelude.{◌≡◌, Bool, true, cond, List, get_or}
 use Rattle.std.proofs.Math.Path.{refl, ap}
-use Rattle.std.proofs.Common.{sym, ◌∙◌, true≢false, add-zero}
+use Rattle.std.proofs.Common.{sym, ◌∙◌, true≢false, add-zero, ℕ, zero, suc, ◌+◌, ◌/◌, ◌%◌, ◌^◌, ◌≤◌, ◌<◌, arith, eq-eqb, ne_eqb}
 use Rattle.std.proofs.Math.Bool.{false}
-use Prim.Native.Nat.{ℕ, zero, suc, ◌+◌, ◌/◌, ◌%◌, ◌^◌, ◌≤◌, ◌<◌}
-use native.Mathlib.Omega.{arith}
 use Rattle.std.proofs.Math.Decide.{dec_le, dec_lt}
-use borrow.Author.Tests.{eq-eqb, ne_eqb}
 use Rattle.words.specs.Bit.{bit}
 use Rattle.words.specs.BitLaws.{bit_shr, bit_none}
 use Rattle.marks.specs.declared.Found.{Found}

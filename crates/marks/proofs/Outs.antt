@@ -1,12 +1,6 @@
 -- The ways out of each call, by what the code has. Assumes nothing.
-use mathlib.Core.Path.{◌≡◌, sym, ap, ap₂, ◌∙◌}
-use mathlib.Core.Bool.{Bool, true}
-use mathlib.Core.List.{List}
-use mathlib.Core.Logic.{◌≢◌}
-use Prim.Native.Nat.{ℕ, ◌-◌, ◌≤◌}
+use Rattle.std.proofs.Common.{◌≡◌, sym, ap, ap₂, ◌∙◌, Bool, true, List, ◌≢◌, ℕ, ◌-◌, ◌≤◌, eqb, leb, length, replicate}
 use native.Mathlib.Decide.{ℕ_discrete}
-use lib.Dec.{eqb, leb}
-use lib.ListN.{length, replicate}
 use Rattle.numbers.specs.Refuse.{refuse, first_of, leaves}
 use Rattle.numbers.specs.RefuseLaws.{first_of_is, first_of_zero, first_of_first, first_of_later, leaves_made, leaves_before, refused_is, done_is}
 use Rattle.vram.specs.Board.{Board, effect}

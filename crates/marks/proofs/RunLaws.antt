@@ -1,9 +1,9 @@
 -- Laws of marked runs: what they mark, and what they leave alone. Assumes nothing.
 use Rattle.std.specs.Prelude.{◌≡◌, Bool, true, false, ◌||◌, ◌≢◌, ℕ, ◌/◌, ◌<◌, length}
 use Rattle.std.proofs.Math.Path.{refl, sym, ap}
-use Rattle.std.proofs.Common.{◌∙◌, subst, true≢false}
+use Rattle.std.proofs.Common.{◌∙◌, subst, true≢false, List, [], ◌∷◌, ◌++◌}
 use Rattle.std.proofs.Math.Bool.{or_assoc}
-use mathlib.Core.List.{List, [], ◌∷◌, ◌++◌, Memᴰ}
+use mathlib.Core.List.{Memᴰ}
 use Rattle.std.proofs.Math.Decide.{ℕ_discrete}
 use Rattle.numbers.specs.RefuseLaws.{leaves_made, leaves_before}
 use Rattle.numbers.specs.Between.{neither}

@@ -1,14 +1,9 @@
 -- One turn of each loop, in the terms that the code has. Assumes nothing.
-use mathlib.Core.Path.{◌≡◌, sym, ap, ap₂, ◌∙◌}
-use mathlib.Core.Bool.{true, false}
-use mathlib.Core.List.{List}
-use Prim.Native.Nat.{ℕ, suc, ◌+◌, ◌-◌, ◌*◌, ◌/◌, ◌%◌, ◌^◌, ◌≤◌, ◌<◌}
-use native.Mathlib.Omega.{arith}
+use Rattle.std.proofs.Common.{◌≡◌, sym, ap, ap₂, ◌∙◌, true, false, List, ℕ, suc, ◌+◌, ◌-◌, ◌*◌, ◌/◌, ◌%◌, ◌^◌, ◌≤◌, ◌<◌, arith, one-mul, mod-lt, mod-eq_of_lt, length, get_or, take, drop, set, replicate, get_or-set_same, get_or-set_other, ext_get_or}
 use native.Mathlib.Decide.{ℕ_discrete}
-use native.Mathlib.Nat.{one-mul, mod-lt, mod-eq_of_lt}
 use lib.Pow.{pow-lt}
-use lib.ListN.{length, get_or, take, drop, set, replicate, length-replicate, get_or-replicate}
-use lib.Seq.{set_out, get_or-set_same, get_or-set_other, ext_get_or}
+use lib.ListN.{length-replicate, get_or-replicate}
+use lib.Seq.{set_out}
 use Rattle.numbers.specs.BufferLaws.{tail_part, tail_length}
 use Rattle.vram.specs.declared.Cycle.{Cycle}
 use Rattle.list.specs.Tags.{byte, word, len_of, cycle_of}

@@ -1,8 +1,8 @@
 -- Drawing results leaves every mark: a list whose writes reach no high byte leaves all of them as they were, whatever results it draws. This
 -- is what version one broke (`Faults`); the statement of change request M-110 alone does not say it. Assumes nothing.
 use Rattle.std.specs.Prelude.{ℕ, ◌≤◌, ◌<◌, ◌≡◌, refl, true, length, get_or}
-use Rattle.std.proofs.Common.{ap, ◌∙◌}
-use mathlib.Core.List.{List, flatten}
+use Rattle.std.proofs.Common.{ap, ◌∙◌, List}
+use mathlib.Core.List.{flatten}
 use Rattle.std.proofs.Math.Decide.{ℕ_discrete}
 use Rattle.words.specs.Bit.{bit}
 use Rattle.words.specs.BitLaws.{bit_above}

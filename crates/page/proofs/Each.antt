@@ -1,8 +1,8 @@
 -- The fills of a page: not refused where the page is not, and of numbers that a C program can give. Assumes nothing.
 use Rattle.std.specs.Prelude.{ℕ, zero, suc, ◌+◌, ◌≤◌, ◌<◌, ◌≡◌, refl, Bool, true, false, cond, get_or, take, drop}
-use Rattle.std.proofs.Common.{sym, ◌∙◌, subst, ⊎_elim, arith}
+use Rattle.std.proofs.Common.{sym, ◌∙◌, subst, ⊎_elim, arith, List, [], ◌∷◌, ◌++◌}
 use mathlib.Core.List.Memᴰ
-use mathlib.Core.List.{List, [], ◌∷◌, ◌++◌, Memᴰ}
+use mathlib.Core.List.{Memᴰ}
 use Rattle.list.proofs.SplitLaws.{word_wide, split_from}
 use Rattle.planner.specs.Fill.{Fill}
 use Rattle.planner.specs.Calls.{asked_refusal}

@@ -1,8 +1,8 @@
 -- What a page paints: each rectangle in turn, the last on top. Demand 3 holds for each rectangle's own part. Change request M-103. Assumes nothing.
 use Rattle.std.specs.Prelude.{ℕ, ◌≡◌, Bool, cond, ◌≢◌, length}
-use Rattle.std.proofs.Common.{sym, ◌∙◌, subst, ⊎_elim, arith}
+use Rattle.std.proofs.Common.{sym, ◌∙◌, subst, ⊎_elim, arith, List, [], ◌∷◌, ◌++◌}
 use Rattle.std.proofs.Math.Path.{ap}
-use mathlib.Core.List.{List, [], ◌∷◌, ◌++◌, Memᴰ}
+use mathlib.Core.List.{Memᴰ}
 use Rattle.vram.specs.declared.Cycle.{Cycle}
 use Rattle.vram.specs.State.{with_colour}
 use Rattle.vram.specs.Board.{Board, board}

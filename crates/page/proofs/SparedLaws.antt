@@ -1,8 +1,7 @@
 -- Laws of bits that some rectangles leave alone. Assumes nothing.
 use Rattle.std.specs.Prelude.{ℕ, ◌<◌, ◌≡◌, true, false, length, get_or}
 use Rattle.std.proofs.Math.Path.{refl}
-use Rattle.std.proofs.Common.{sym, ◌∙◌, subst}
-use mathlib.Core.List.{List, [], ◌∷◌, ◌++◌}
+use Rattle.std.proofs.Common.{sym, ◌∙◌, subst, List, [], ◌∷◌, ◌++◌}
 use Rattle.numbers.specs.Between.{neither}
 use Rattle.words.specs.Bit.{bit}
 use Rattle.planner.specs.Fill.{Fill}

@@ -1,10 +1,8 @@
 -- Laws of the rectangles as fields. Assumes nothing.
 use Rattle.std.specs.Prelude.{ℕ, ◌≤◌, ◌<◌, ◌≡◌, Bool, true, false, List, [], ◌∷◌, ◌++◌, map, eqb, drop}
 use Rattle.std.proofs.Math.Path.{refl}
-use Rattle.std.proofs.Common.{ap, ap₂, ◌∙◌}
-use native.Mathlib.Omega.{arith}
+use Rattle.std.proofs.Common.{ap, ap₂, ◌∙◌, arith, eq-eqb}
 use Rattle.std.proofs.Math.ListN.{length}
-use borrow.Author.Tests.{eq-eqb}
 use Rattle.numbers.specs.Between.{both}
 use Rattle.list.specs.Tags.{byte, word}
 use Rattle.list.specs.Splits.{sized}

@@ -54,12 +54,7 @@ fn refused(number: u32, place: u64) -> Paged
 }
 
 // The joined lists of a page's fills, at the start of the buffer. Persistent: 0 no, any other number yes.
-pub fn linkshoar_page(
-    rows: u32,
-    persistent: u32,
-    rectangles: &[u8],
-    list: &mut [u8],
-) -> Paged
+pub fn linkshoar_page(rows: u32, persistent: u32, rectangles: &[u8], list: &mut [u8]) -> Paged
     ensures { outcome result list.new ≡ page_call rows persistent rectangles.now list.old }
 {
     let n = refuse(

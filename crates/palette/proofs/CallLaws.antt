@@ -1,7 +1,7 @@
 -- The number that an access gives; it is refused and changes nothing, or is done. Assumes nothing.
 use Rattle.std.specs.Prelude.{◌≡◌, ℕ, ◌<◌, ◌≤◌, true, false, ◌≢◌, List, length, ◌==◌, nat_le}
-use Rattle.std.proofs.Common.{ap}
-use borrow.Author.Tests.{eqb-true, leb-true, ne_eqb, le-leb, lt-leb}
+use Rattle.std.proofs.Common.{ap, eqb-true, leb-true, ne_eqb, le-leb}
+use borrow.Author.Tests.{lt-leb}
 use Rattle.numbers.specs.RefuseLaws.{refuse_zero}
 use Rattle.palette.specs.declared.Palette.{Palette}
 use Rattle.palette.specs.declared.Accessed.{Accessed}

@@ -1,9 +1,8 @@
 -- The rule of pixels: computed, and case by case: the mark, the result, the result in reverse. Assumes nothing.
 use Rattle.std.specs.Prelude.{◌≡◌, refl, Bool, true, false, not, ◌&&◌, List, [], ◌∷◌, map, ◌≢◌, ℕ, ◌-◌, ◌%◌, ◌^◌, ◌<◌}
-use Rattle.std.proofs.Common.{sym, ap, ◌∙◌, mod-lt, lt_of_le_of_lt, arith}
+use Rattle.std.proofs.Common.{sym, ap, ◌∙◌, mod-lt, lt_of_le_of_lt, arith, eq-eqb, ne_eqb}
 use Rattle.std.specs.Int.Bits.{bit_and, and_zero_l}
 use Rattle.std.proofs.lemmas.Nat.{and_le_l}
-use borrow.Author.Tests.{eq-eqb, ne_eqb}
 use Rattle.words.specs.Bit.{bit, of_bits}
 use Rattle.words.specs.BitLaws.{of_bits_unique, bits_eq, bit_of_and, bit_not, bit_of_bits}
 use Rattle.words.specs.Word.{high}

@@ -1,8 +1,5 @@
 -- Three stores are the colour that a word shows. Assumes nothing.
-use mathlib.Core.Path.{◌≡◌}
-use mathlib.Core.List.{List}
-use Prim.Native.Nat.{ℕ, ◌+◌, ◌*◌, ◌%◌}
-use lib.ListN.{get_or, set}
+use Rattle.std.proofs.Common.{◌≡◌, List, ℕ, ◌+◌, ◌*◌, ◌%◌, get_or, set}
 use Rattle.palette.specs.Table.{store}
 use Rattle.panel.specs.Panel.{Panel, entry_of, colour_of}
 

@@ -1,7 +1,5 @@
 -- Two bytes as one number, and the bits that a part has of a byte. Assumes nothing.
-use mathlib.Core.Path.{◌≡◌, ap₂, ◌∙◌}
-use Prim.Native.Nat.{ℕ, ◌*◌, ◌/◌, ◌%◌, ◌<◌}
-use native.Mathlib.Omega.{arith}
+use Rattle.std.proofs.Common.{◌≡◌, ap₂, ◌∙◌, ℕ, ◌*◌, ◌/◌, ◌%◌, ◌<◌, arith}
 use lib.Bits.{bit_and, and_mod, and_shr, and_mask, and_zero_r}
 use Rattle.panel.specs.Two.{two}
 

@@ -1,6 +1,6 @@
 -- Each call of the plain engine has the contract of the fast engine's, as the compiler has the two: whoever calls cannot tell them apart.
 -- Change request M-105. Assumes nothing.
-use mathlib.Core.Path.{◌≡◌, refl}
+use Rattle.std.proofs.Common.{◌≡◌, refl}
 use Rattle.numbers.specs.Determines.{Contract}
 use Rattle.numbers.specs.DeterminesLaws.{same_contract}
 use Rattle.list.proofs.CallLaws.{calls_same}

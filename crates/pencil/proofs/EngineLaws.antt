@@ -1,9 +1,7 @@
 -- The plain engine does what the rules' engine does: from one bit to a word, to a block, to a cycle. Assumes nothing.
 use Rattle.std.specs.Prelude.{◌≡◌, refl, Bool, true, false, ◌&&◌, get_or, set}
 use Rattle.std.proofs.Math.Path.{sym, ap}
-use Rattle.std.proofs.Common.{◌∙◌}
-use mathlib.Core.List.{List}
-use Prim.Native.Nat.{ℕ, zero, suc, ◌+◌, ◌*◌, ◌/◌, ◌<◌}
+use Rattle.std.proofs.Common.{◌∙◌, List, ℕ, zero, suc, ◌+◌, ◌*◌, ◌/◌, ◌<◌}
 use Rattle.words.specs.Bit.{bit}
 use Rattle.words.specs.Word.{covers, lets}
 use Rattle.words.specs.WordLaws.{merged_cong}

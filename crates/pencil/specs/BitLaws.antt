@@ -1,9 +1,8 @@
 -- Laws of one bit, and of sixteen one after the other. Assumes nothing.
 use Rattle.std.specs.Prelude.{◌≡◌, Bool, true, ◌&&◌, ◌≢◌, eqb, ltb}
 use Rattle.std.proofs.Math.Path.{refl, sym, ap}
-use Rattle.std.proofs.Common.{◌∙◌, arith, add-one, eqb-true, lt-ltb, le-ltb, ltb-true, ltb-false}
+use Rattle.std.proofs.Common.{◌∙◌, arith, add-one, eqb-true, lt-ltb, le-ltb, ltb-true, ltb-false, ℕ, zero, suc, ◌+◌, ◌<◌, ◌^◌}
 use Rattle.std.proofs.Math.Bool.{false, cond}
-use Prim.Native.Nat.{ℕ, zero, suc, ◌+◌, ◌<◌, ◌^◌}
 use Rattle.std.proofs.lemmas.Bool.{eqb-false}
 use Rattle.words.specs.Bit.{bit}
 use Rattle.words.specs.BitLaws.{of_bits_unique, bit_of_bits, of_bits_lt}

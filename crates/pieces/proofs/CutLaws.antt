@@ -1,7 +1,7 @@
 -- Pieces come to what the bytes come to that they join to. Assumes nothing.
 use Rattle.std.specs.Prelude.{◌≡◌, refl, Bool, true, false, ◌≢◌, ℕ, ◌≤◌, eqb, length}
-use Rattle.std.proofs.Common.{sym, ap, ap₂, ◌∙◌, arith, eqb-true}
-use mathlib.Core.List.{List, [], ◌∷◌, flatten, foldl-append, map}
+use Rattle.std.proofs.Common.{sym, ap, ap₂, ◌∙◌, arith, eqb-true, List, [], ◌∷◌}
+use mathlib.Core.List.{flatten, foldl-append, map}
 use Rattle.std.proofs.lemmas.Bool.{eqb-false}
 use Rattle.vram.specs.Board.{Board}
 use Rattle.vram.specs.Step.{given_of, rows_of, run}

@@ -1,8 +1,8 @@
 -- Every cutting of a list: it does not matter where a list of at most 4,294,967,295 bytes is cut, nor whether pieces are empty. Change
 -- request M-109. Assumes nothing.
 use Rattle.std.specs.Prelude.{◌≡◌, refl, Bool, true, false, ◌≢◌, ℕ, ◌≤◌, eqb, length, take}
-use Rattle.std.proofs.Common.{sym, ap, ap₂, ◌∙◌, eqb-true}
-use mathlib.Core.List.{List, flatten, map}
+use Rattle.std.proofs.Common.{sym, ap, ap₂, ◌∙◌, eqb-true, List, map}
+use mathlib.Core.List.{flatten}
 use Rattle.std.proofs.lemmas.Bool.{eqb-false}
 use Rattle.vram.specs.Board.{Board}
 use Rattle.vram.specs.Step.{given_of, rows_of, run}

@@ -1,8 +1,8 @@
 -- What calls make of a fresh line meets the rule, so that no call is refused with 1 for it: whatever calls, in whatever order, on whatever boards. Change request M-109.
 -- Assumes nothing.
 use Rattle.std.specs.Prelude.{◌≡◌, refl, Bool, true, false, ℕ, eqb}
-use Rattle.std.proofs.Common.{sym, ap, ◌∙◌, eqb-true}
-use mathlib.Core.List.{List, [], ◌∷◌, foldl}
+use Rattle.std.proofs.Common.{sym, ap, ◌∙◌, eqb-true, List, [], ◌∷◌}
+use mathlib.Core.List.{foldl}
 use Rattle.std.proofs.lemmas.Bool.{eqb-false}
 use Rattle.vram.specs.Board.{Board}
 use Rattle.vram.specs.Step.{given_of}

@@ -1,8 +1,8 @@
 -- Demand 1 as change request M-109 reads it: from the field refused on, nothing changes. For every line, board and piece, also those that no
 -- pieces could make. Assumes nothing.
 use Rattle.std.specs.Prelude.{◌≡◌, refl, Bool, true, false, ◌≢◌, ℕ, eqb}
-use Rattle.std.proofs.Common.{sym, ap, ◌∙◌, eqb-true}
-use mathlib.Core.List.{List, ◌++◌, foldl-append}
+use Rattle.std.proofs.Common.{sym, ap, ◌∙◌, eqb-true, List, ◌++◌}
+use mathlib.Core.List.{foldl-append}
 use Rattle.std.proofs.lemmas.Bool.{eqb-false}
 use Rattle.vram.specs.Board.{Board}
 use Rattle.vram.specs.Step.{given_of}

@@ -1,6 +1,7 @@
 -- A list in pieces whose writes reach no high byte leaves every one, whether it is refused at some field or not. Assumes nothing.
 use Rattle.std.specs.Prelude.{◌≡◌, refl, Bool, true, false, cond, ℕ, ◌≤◌, eqb, length}
-use mathlib.Core.List.{List, [], ◌∷◌, flatten}
+use Rattle.std.proofs.Common.{List, [], ◌∷◌}
+use mathlib.Core.List.{flatten}
 use Rattle.std.proofs.Math.Decide.{ℕ_discrete}
 use Rattle.vram.specs.Memory.{Words}
 use Rattle.vram.specs.Board.{Board}

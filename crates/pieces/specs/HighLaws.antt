@@ -1,9 +1,8 @@
 -- A list in pieces on two boards that differ in low bytes alone: the same answers, the same line between the pieces, and high bytes that
 -- agree; for every line, also one that no pieces could make, and for every piece. Change request M-110. Assumes nothing.
 use Rattle.std.specs.Prelude.{◌≡◌, refl, Bool, cond, ℕ, ◌+◌, eqb, ltb}
-use Rattle.std.proofs.Common.{ap₂}
+use Rattle.std.proofs.Common.{ap₂, List, [], ◌∷◌, ◌++◌}
 use Rattle.std.proofs.Math.Bool.{true, false}
-use mathlib.Core.List.{List, [], ◌∷◌, ◌++◌}
 use Rattle.std.proofs.Math.ListN.{length}
 use Rattle.vram.specs.Board.{Board, effect}
 use Rattle.vram.specs.High.{Twins}

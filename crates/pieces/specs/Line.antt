@@ -1,6 +1,7 @@
 -- A list that comes in pieces: change request M-109. The rule is said of one byte; a piece is its bytes in order. Assumes nothing.
 use Rattle.std.specs.Prelude.{ℕ, ◌+◌, cond, eqb, ltb, length}
-use mathlib.Core.List.{List, [], ◌∷◌, ◌++◌, foldl}
+use Rattle.std.proofs.Common.{List, [], ◌∷◌, ◌++◌}
+use mathlib.Core.List.{foldl}
 use Rattle.vram.specs.Board.{Board}
 use Rattle.vram.specs.Step.{rows_of, step}
 use Rattle.list.specs.declared.Bad.{Bad}

@@ -1,8 +1,8 @@
 -- Every cutting, for C: whatever the bytes of the state are, a list in pieces is answered as `linkshoar_list_run` answers it whole, and an
 -- accepted one leaves the same. Change request M-109. Assumes nothing.
 use Rattle.std.specs.Prelude.{ℕ, ◌≤◌, ◌≡◌, refl, Bool, true, false, ◌&&◌, length}
-use Rattle.std.proofs.Common.{sym, ap, ◌∙◌, arith}
-use mathlib.Core.List.{List, [], ◌∷◌, flatten}
+use Rattle.std.proofs.Common.{sym, ap, ◌∙◌, arith, List, [], ◌∷◌}
+use mathlib.Core.List.{flatten}
 use Rattle.vram.specs.declared.Vram.{Vram}
 use Rattle.vram.specs.Board.{board, effect}
 use Rattle.list.specs.declared.Bad.{Bad}

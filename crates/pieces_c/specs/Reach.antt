@@ -1,8 +1,8 @@
 -- What C's calls make of a fresh line meets the rule, so that no call is refused with 1 for it: whatever calls, in whatever order, on whatever
 -- state and memory, also ones that are refused. Change request M-109. Assumes nothing.
 use Rattle.std.specs.Prelude.{ℕ, ◌≡◌, refl, Bool, true, false, ◌&&◌}
-use Rattle.std.proofs.Common.{sym, ap, ◌∙◌}
-use mathlib.Core.List.{List, [], ◌∷◌, foldl}
+use Rattle.std.proofs.Common.{sym, ap, ◌∙◌, List, [], ◌∷◌}
+use mathlib.Core.List.{foldl}
 use Rattle.vram.specs.Board.{board}
 use Rattle.registers.specs.declared.Registers.{Registers}
 use Rattle.registers.specs.State.{lawful, taken}

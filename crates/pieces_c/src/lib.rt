@@ -61,12 +61,7 @@ pub fn linkshoar_pieces_take(
 }
 
 // The list is over.
-pub fn linkshoar_pieces_end(
-    state: Registers,
-    line: Pieces,
-    memory: &[u16],
-    serial: &[u16],
-) -> Taken
+pub fn linkshoar_pieces_end(state: Registers, line: Pieces, memory: &[u16], serial: &[u16]) -> Taken
     ensures { answered result memory.now serial.now ≡ end_call state line memory.now serial.now }
 {
     if both_lawful(state, line) {

@@ -1,9 +1,9 @@
 -- No list turns a wrong bit right in every word of the rectangle with fewer cycles than the smaller of W and 1 + B. Nothing is asked
 -- of the cycles: of what a cycle does, only what it aims at counts. Assumes nothing.
 use Rattle.std.specs.Prelude.{ℕ, zero, suc, ◌+◌, ◌*◌, ◌/◌, ◌≤◌, ◌<◌, min, ◌≡◌, refl, Bool, true, ◌≢◌, length, get_or}
-use Rattle.std.proofs.Common.{zero-le, sym, ap, ◌∙◌, subst, ⊎_elim, arith, le_trans, length-append}
+use Rattle.std.proofs.Common.{zero-le, sym, ap, ◌∙◌, subst, ⊎_elim, arith, le_trans, length-append, List, [], ◌∷◌, ◌++◌}
 use mathlib.Core.List.Memᴰ
-use mathlib.Core.List.{List, [], ◌∷◌, ◌++◌, Memᴰ}
+use mathlib.Core.List.{Memᴰ}
 use Rattle.words.specs.Bit.{bit}
 use Rattle.vram.specs.declared.Cycle.{Cycle}
 use Rattle.vram.specs.Board.{Board}

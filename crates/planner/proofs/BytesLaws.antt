@@ -1,9 +1,7 @@
 -- Laws of the stored bytes: they are the bytes of the plan's cycles. Assumes nothing.
 use Rattle.std.specs.Prelude.{ℕ, suc, ◌+◌, ◌-◌, ◌*◌, ◌≤◌, ◌<◌, ◌≡◌, length}
 use Rattle.std.proofs.Math.Path.{refl, sym, ap, ap₂}
-use Rattle.std.proofs.Common.{◌∙◌, zero-add, eq-eqb, ne_eqb}
-use mathlib.Core.List.{List, [], ◌++◌}
-use native.Mathlib.Omega.{arith}
+use Rattle.std.proofs.Common.{◌∙◌, zero-add, eq-eqb, ne_eqb, List, [], ◌++◌, arith}
 use Rattle.std.proofs.Math.Seq.{sets}
 use Rattle.numbers.specs.BufferLaws.{sets_append, sets_apart}
 use Rattle.planner.proofs.SeriesLaws.{series_cong, series_shift, series_append, series_one, series_length}

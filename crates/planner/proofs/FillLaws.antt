@@ -1,11 +1,10 @@
 -- Laws of the rectangle: words covered and blocks touched, row by row and in closed form. Assumes nothing.
 use Rattle.std.specs.Prelude.{ℕ, zero, suc, ◌+◌, ◌-◌, ◌*◌, ◌/◌, ◌%◌, ◌≤◌, ◌<◌, max, min, ◌≡◌, Bool, ◌&&◌, ◌||◌, [], ◌∷◌, map, ◌≢◌, leb, length}
 use Rattle.std.proofs.Math.Path.{refl, ap, ap₂}
-use Rattle.std.proofs.Common.{sym, ◌∙◌, mul-one}
+use Rattle.std.proofs.Common.{sym, ◌∙◌, mul-one, arith, eq-eqb, ne_eqb, leb-true, leb-false, le-leb}
 use Rattle.std.proofs.Math.Bool.{true, false}
-use native.Mathlib.Omega.{arith}
 use Rattle.std.proofs.lemmas.List.{length-map}
-use borrow.Author.Tests.{eq-eqb, ne_eqb, leb-true, leb-false, le-leb, lt-leb}
+use borrow.Author.Tests.{lt-leb}
 use Rattle.numbers.specs.Between.{between, both, same_truth, between_in, between_says}
 use Rattle.planner.specs.Fill.{Fill, inside, touched, covered_words, touched_blocks, W, B, word_write, block_write, by_words, by_blocks, plan}
 use Rattle.planner.specs.Bytes.{series}

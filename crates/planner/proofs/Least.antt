@@ -1,10 +1,8 @@
 -- From bytes to the bound: the board on which every bit is wrong, and what an accepted list does there. Assumes nothing.
-use Prim.Native.Nat.{ℕ, suc, ◌+◌, ◌*◌, ◌≤◌, ◌<◌, min}
 use Rattle.std.specs.Prelude.{◌≡◌, Bool, false, ◌&&◌, ◌≢◌, length, get_or, replicate}
-use Rattle.std.proofs.Common.{sym, ◌∙◌, true≢false, arith}
+use Rattle.std.proofs.Common.{sym, ◌∙◌, true≢false, arith, ℕ, suc, ◌+◌, ◌*◌, ◌≤◌, ◌<◌, min, List}
 use Rattle.std.proofs.Math.Path.{ap, subst}
 use Rattle.std.proofs.Math.Bool.{true, not, cond}
-use mathlib.Core.List.{List}
 use Rattle.std.proofs.Math.Decide.{dec_le}
 use Rattle.std.proofs.Math.ListN.{length-replicate, get_or-replicate, get_or-eq_default}
 use Rattle.words.specs.Bit.{bit, of_bits}

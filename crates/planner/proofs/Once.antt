@@ -1,6 +1,6 @@
 -- Each public call's contract, as the compiler has it, requires nothing and determines the outcome; of a fill its first clause does.
 -- Assumes nothing.
-use mathlib.Core.Path.{refl, sym, ap, ◌∙◌}
+use Rattle.std.proofs.Common.{refl, sym, ap, ◌∙◌}
 use Rattle.numbers.specs.Determines.{Determines}
 use Rattle.numbers.specs.DeterminesLaws.{by_result, by_first}
 use Rattle.planner.specs.contracts.measure as measured

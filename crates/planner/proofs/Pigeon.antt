@@ -1,8 +1,8 @@
 -- Numbers that are picked and all stand in a list are no more than the list is long. Assumes nothing.
 use Rattle.std.specs.Prelude.{ℕ, zero, suc, ◌+◌, ◌≤◌, ◌<◌, ◌≡◌, refl, Bool, true, false, cond, ◌≢◌, length}
-use Rattle.std.proofs.Common.{zero-le, sym, ap, subst, ⊎_elim, arith}
+use Rattle.std.proofs.Common.{zero-le, sym, ap, subst, ⊎_elim, arith, List, ◌∷◌}
 use mathlib.Core.List.Memᴰ
-use mathlib.Core.List.{List, ◌∷◌, Memᴰ}
+use mathlib.Core.List.{Memᴰ}
 use Rattle.planner.specs.Fill.{picked}
 
 -- xs with one x taken out

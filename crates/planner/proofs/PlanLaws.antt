@@ -1,10 +1,8 @@
 -- The bytes that the code stores are those of the plan's cycles. Assumes nothing.
-use Prim.Native.Nat.{ℕ, suc, ◌+◌, ◌-◌, ◌*◌, ◌/◌, ◌%◌, ◌≤◌, ◌<◌}
 use Rattle.std.specs.Prelude.{◌≡◌, refl, Bool, true, false, ◌&&◌, eqb, length}
-use Rattle.std.proofs.Common.{sym, ◌∙◌, add-zero, eqb-true}
+use Rattle.std.proofs.Common.{sym, ◌∙◌, add-zero, eqb-true, ℕ, suc, ◌+◌, ◌-◌, ◌*◌, ◌/◌, ◌%◌, ◌≤◌, ◌<◌, List, [], ◌∷◌, ◌++◌, map, append-nil, arith}
 use Rattle.std.proofs.Math.Path.{ap, ap₂}
-use mathlib.Core.List.{List, [], ◌∷◌, ◌++◌, map, map-append, append-nil}
-use native.Mathlib.Omega.{arith}
+use mathlib.Core.List.{map-append}
 use Rattle.std.proofs.lemmas.Bool.{eqb-false}
 use Rattle.numbers.specs.Between.{between, between_in}
 use Rattle.words.specs.Bit.{of_bits}

@@ -1,12 +1,11 @@
 -- Laws of what a fill comes to. Assumes nothing.
 use Rattle.std.specs.Prelude.{ℕ, ◌+◌, ◌-◌, ◌*◌, ◌/◌, ◌≤◌, ◌<◌, ◌≡◌, Bool, cond, ◌≢◌}
 use Rattle.std.proofs.Math.Path.{refl, sym}
-use Rattle.std.proofs.Common.{ap, ◌∙◌, subst, arith, mul-le-mul}
+use Rattle.std.proofs.Common.{ap, ◌∙◌, subst, arith, mul-le-mul, [], eqb-true, eq-eqb, ne_eqb, leb-true, leb-false, le-leb}
 use Rattle.std.proofs.Math.Bool.{true, false}
-use mathlib.Core.List.{[]}
 use Rattle.std.proofs.Math.Dec.{eqb, leb}
 use Rattle.std.proofs.Math.ListN.{length, length-map}
-use borrow.Author.Tests.{eqb-true, eqb-false, eq-eqb, ne_eqb, leb-true, leb-false, le-leb, lt-leb}
+use borrow.Author.Tests.{eqb-false, lt-leb}
 use Rattle.numbers.specs.RefuseLaws.{leaves_made}
 use Rattle.list.specs.Encode.{encode_all}
 use Rattle.list.proofs.EncodedLaws.{encode_none}

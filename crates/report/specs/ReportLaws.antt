@@ -1,8 +1,7 @@
 -- Laws of a report: its parts, and that a page has room for it. Assumes nothing.
 use Rattle.std.specs.Prelude.{◌≡◌, refl, Bool, true, false, cond, ◌≢◌, ℕ, ◌≤◌, ◌<◌, eqb, leb, length, replicate, take, drop}
-use Rattle.std.proofs.Common.{sym, ◌∙◌, subst, arith, length-take, take_at, eqb-true, le-leb, leb-true}
+use Rattle.std.proofs.Common.{sym, ◌∙◌, subst, arith, length-take, take_at, eqb-true, le-leb, leb-true, List}
 use Rattle.std.proofs.Math.Path.{ap}
-use mathlib.Core.List.{List}
 use Rattle.std.proofs.lemmas.List.{length-replicate}
 use Rattle.std.proofs.lemmas.Bool.{eqb-false, lt-leb}
 use Rattle.numbers.specs.Refuse.{refuse, leaves}

@@ -1,14 +1,13 @@
 -- Laws of writes and copies on a slice of words. Assumes nothing.
 use Rattle.std.specs.Prelude.{◌≡◌, ℕ, zero, suc, ◌+◌, ◌-◌, ◌<◌, ◌≤◌, Bool, true, false, cond, ◌≢◌, ◌⊎◌, List, ◌++◌, map, length, take, drop, set, ◌==◌, slice_index, slice_set}
 use Rattle.std.proofs.Math.Path.{refl, ap}
-use Rattle.std.proofs.Common.{sym, ◌∙◌, length-set, length-drop, get_or-set_same, get_or-set_other, drop-set-lt}
+use Rattle.std.proofs.Common.{sym, ◌∙◌, length-set, length-drop, get_or-set_same, get_or-set_other, drop-set-lt, arith, eqb-true}
 use Rattle.std.proofs.lemmas.List.{map-append, drop-set-add, take-set-le}
 use Rattle.std.proofs.Math.Logic.{inl, inr, ⊎_elim}
-use native.Mathlib.Omega.{arith}
 use Rattle.std.proofs.Math.ListN.{length-take, get_or-append}
 use Rattle.std.proofs.lemmas.List.Edits.{length-paste}
 use Rattle.std.proofs.Math.Seq.{length_paste_head, get_or-append-add, get_or-take, get_or-drop}
-use borrow.Author.Tests.{eqb-true, eqb-false}
+use borrow.Author.Tests.{eqb-false}
 use Rattle.numbers.specs.Between.{between, between_in, between_says, between_out, same_truth}
 use Rattle.words.specs.Word.{merged}
 use Rattle.words.specs.WordLaws.{merged_cong}

@@ -1,6 +1,5 @@
 -- `bench::all_rows` meets its contract: the zeros are counted by a law, not one by one. Assumes nothing.
-use mathlib.Core.Path.{sym}
-use Prim.Native.Nat.{ℕ}
+use Rattle.std.proofs.Common.{sym, ℕ}
 use lib.ListN.{length-replicate}
 use Rattle.bench.proofs.all_rows.Goals as goal
 

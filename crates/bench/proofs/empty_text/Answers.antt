@@ -1,6 +1,5 @@
 -- `bench::empty_text` meets its contract: the zeros are counted by a law, not one by one. Assumes nothing.
-use mathlib.Core.Path.{sym}
-use Prim.Native.Nat.{ℕ}
+use Rattle.std.proofs.Common.{sym, ℕ}
 use lib.ListN.{length-replicate}
 use Rattle.bench.proofs.empty_text.Goals as goal
 

@@ -1,6 +1,5 @@
 -- `colours_c::linkshoar_colours_fresh` meets its contract. Assumes nothing.
-use borrow.Author.Rules.{rules}
-use mathlib.Core.Path.{ap, ◌∙◌}
+use Rattle.std.proofs.Common.{ap, ◌∙◌}
 use Rattle.colours_c.specs.State.{handed}
 use Rattle.colours_c.proofs.linkshoar_colours_fresh.Goals as goal
 

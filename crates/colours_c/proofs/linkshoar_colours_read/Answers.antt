@@ -1,5 +1,4 @@
 -- `colours_c::linkshoar_colours_read` meets its contract. Assumes nothing.
-use borrow.Author.Rules.{rules}
 use Rattle.colours_c.proofs.linkshoar_colours_read.Goals as goal
 
 pub returns : goal.returns

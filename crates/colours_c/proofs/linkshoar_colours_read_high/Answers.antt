@@ -1,5 +1,4 @@
 -- `colours_c::linkshoar_colours_read_high` meets its contract. Assumes nothing.
-use borrow.Author.Rules.{rules}
 use Rattle.colours_c.proofs.linkshoar_colours_read_high.Goals as goal
 
 pub returns : goal.returns

@@ -1,6 +1,5 @@
 -- `controller_c::linkshoar_controller_fresh` meets its contract. Assumes nothing.
-use borrow.Author.Rules.{rules}
-use mathlib.Core.Path.{ap, ◌∙◌}
+use Rattle.std.proofs.Common.{ap, ◌∙◌}
 use Rattle.controller_c.specs.State.{handed}
 use Rattle.controller_c.proofs.linkshoar_controller_fresh.Goals as goal
 

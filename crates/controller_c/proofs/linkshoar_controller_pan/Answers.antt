@@ -1,6 +1,5 @@
 -- `controller_c::linkshoar_controller_pan` meets its contract. Assumes nothing.
-use borrow.Author.Rules.{rules}
-use mathlib.Core.Path.{sym, ap, ◌∙◌}
+use Rattle.std.proofs.Common.{sym, ap, ◌∙◌}
 use lib.IntN.{ℤ}
 use mir.Syntax.{w32}
 use mir.ValLaws.{to_z-of_z}
@@ -10,17 +9,13 @@ use Rattle.controller_c.proofs.linkshoar_controller_pan.Goals as goal
 
 pub returns-then-lawful : goal.returns-then-lawful
 returns-then-lawful c =
-    let r = c in
-    let t = r in
-    let l = t in
-    let a = l.args in
-    let w = to_z-of_z w32 a.words l.ranges.words in
+    let a = c.args in
+    let w = to_z-of_z w32 a.words c.ranges.words in
     c.answer.ensures
-    ∙ call_done a.state (sym l.lawful.ensures ∙ t.if-lawful.true) t.take.ensures
-    (Pan a.words) (r.pan.ensures ∙ ap (λ (z : ℤ). does (Pan z) t.take.result) w)
+    ∙ call_done a.state (sym c.lawful.ensures ∙ c.if-lawful.true) c.take.ensures
+    (Pan a.words) (c.pan.ensures ∙ ap (λ (z : ℤ). does (Pan z) c.take.result) w)
 
 pub returns : goal.returns
 returns c =
-    let l = c in
-    let a = l.args in
-    c.excluded.ensures ∙ call_excluded a.state (sym l.lawful.ensures ∙ c.if-lawful.false) (Pan a.words)
+    let a = c.args in
+    c.excluded.ensures ∙ call_excluded a.state (sym c.lawful.ensures ∙ c.if-lawful.false) (Pan a.words)

@@ -1,22 +1,17 @@
 -- `controller_c::linkshoar_controller_set_offset` meets its contract. Assumes nothing.
-use borrow.Author.Rules.{rules}
-use mathlib.Core.Path.{sym, ◌∙◌}
+use Rattle.std.proofs.Common.{sym, ◌∙◌}
 use Rattle.controller.specs.Calls.{SetOffset}
 use Rattle.controller_c.specs.CallLaws.{call_excluded, call_done}
 use Rattle.controller_c.proofs.linkshoar_controller_set_offset.Goals as goal
 
 pub returns-then-lawful : goal.returns-then-lawful
 returns-then-lawful c =
-    let r = c in
-    let t = r in
-    let l = t in
-    let a = l.args in
+    let a = c.args in
     c.answer.ensures
-    ∙ call_done a.state (sym l.lawful.ensures ∙ t.if-lawful.true) t.take.ensures
-    (SetOffset a.offset) r.set_offset.ensures
+    ∙ call_done a.state (sym c.lawful.ensures ∙ c.if-lawful.true) c.take.ensures
+    (SetOffset a.offset) c.set_offset.ensures
 
 pub returns : goal.returns
 returns c =
-    let l = c in
-    let a = l.args in
-    c.excluded.ensures ∙ call_excluded a.state (sym l.lawful.ensures ∙ c.if-lawful.false) (SetOffset a.offset)
+    let a = c.args in
+    c.excluded.ensures ∙ call_excluded a.state (sym c.lawful.ensures ∙ c.if-lawful.false) (SetOffset a.offset)

@@ -1,5 +1,4 @@
 -- `host::linkshoar_fill` meets its contract. Assumes nothing.
-use borrow.Author.Rules.{rules}
 use Rattle.host.proofs.linkshoar_fill.Goals as goal
 
 pub returns : goal.returns

@@ -1,5 +1,4 @@
 -- `host::linkshoar_palette_fresh` meets its contract. Assumes nothing.
-use borrow.Author.Rules.{rules}
 use Rattle.host.proofs.linkshoar_palette_fresh.Goals as goal
 
 pub returns : goal.returns

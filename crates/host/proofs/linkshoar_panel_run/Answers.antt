@@ -1,6 +1,5 @@
 -- `host::linkshoar_panel_run` meets its contract. Assumes nothing.
 use Rattle.panel.proofs.PartLaws.{eight_rule}
-use borrow.Author.Rules.{rules}
 use Rattle.host.proofs.linkshoar_panel_run.Goals as goal
 
 pub returns : goal.returns

@@ -1,6 +1,5 @@
 -- `host::linkshoar_vram_fresh` meets its contract. Assumes nothing.
-use borrow.Author.Rules.{rules}
-use mathlib.Core.Path.{ap, ◌∙◌}
+use Rattle.std.proofs.Common.{ap, ◌∙◌}
 use Rattle.registers.specs.State.{handed}
 use Rattle.host.proofs.linkshoar_vram_fresh.Goals as goal
 

@@ -1,5 +1,4 @@
 -- `host::linkshoar_word_read` meets its contract. Assumes nothing.
-use borrow.Author.Rules.{rules}
 use Rattle.host.proofs.linkshoar_word_read.Goals as goal
 
 pub returns : goal.returns

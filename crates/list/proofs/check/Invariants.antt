@@ -1,14 +1,8 @@
 -- `list::check` meets its contract: one turn of the loop is one field judged. Assumes nothing.
-use mathlib.Core.Path.{◌≡◌, ap, ◌∙◌}
-use mathlib.Core.Logic.{⊎_elim}
-use Prim.Native.Nat.{ℕ, ◌≤◌, ◌-◌}
-use native.Mathlib.Omega.{arith}
-use lib.ListN.{length}
+use Rattle.std.proofs.Common.{◌≡◌, ◌≤◌, ◌-◌, length}
 use Rattle.list.specs.declared.Open.TheVariants.{None}
 use Rattle.list.specs.Meaning.{judged}
 use Rattle.list.specs.Fields.{fields}
-use Rattle.list.proofs.Turns.{fill_loads, fill_opens, end_check, turn_bad, turn_fits, turn_good, rest_less, rest_within}
-use borrow.Author.Rules.{rules}
 use Rattle.list.proofs.check.Given as goal
 
 abbrev pub invariant-loop-rest : goal.invariant-loop-rest

@@ -1,8 +1,5 @@
 -- `list::head_of` meets its contract. Assumes nothing.
-use mathlib.Core.Path.{sym, ap, ap₂, ◌∙◌}
-use mathlib.Core.List.{List}
-use Prim.Native.Nat.{ℕ, ◌+◌}
-use native.Mathlib.Omega.{arith}
+use Rattle.std.proofs.Common.{sym, ap, ap₂, ◌∙◌, List, ℕ, ◌+◌, arith}
 use Rattle.list.specs.declared.Head.TheVariants.{Whole}
 use Rattle.list.specs.Tags.{cycle_of}
 use Rattle.list.specs.Fields.{tag}
@@ -10,7 +7,6 @@ use Rattle.list.proofs.FieldLaws.{whole_length}
 use Rattle.list.proofs.WaitsLaws.{settled_long}
 use Rattle.list.proofs.HeadLaws.{head_waits, head_whole, head_wrong}
 use Rattle.list.proofs.Turns.{body_part}
-use borrow.Author.Rules.{rules}
 use Rattle.list.proofs.head_of.Goals as goal
 
 pub returns-then-waits : goal.returns-then-waits
@@ -21,24 +17,19 @@ whole-requires c = omega (arith, settled_long _ (sym c.waits.ensures ∙ c.if-wa
 
 pub bounds-bytes-0 : goal.bounds-bytes-0
 bounds-bytes-0 c =
-    let w = c in
-    omega (arith, whole_length _ (sym w.whole.ensures ∙ c.if-whole.true))
+    omega (arith, whole_length _ (sym c.whole.ensures ∙ c.if-whole.true))
 
 pub slice_bounds-cycle_of-end : goal.slice_bounds-cycle_of-end
 slice_bounds-cycle_of-end c =
-    let t = c in
-    omega (arith, whole_length _ (sym t.whole.ensures ∙ t.if-whole.true), c.body_length-size.ensures.0)
+    omega (arith, whole_length _ (sym c.whole.ensures ∙ c.if-whole.true), c.body_length-size.ensures.0)
 
 pub returns-then-whole : goal.returns-then-whole
 returns-then-whole c =
-    let b = c in
-    let t = b in
-    let e = b.body_length-size.ensures.0 in
-    let s : List ℕ = t.args.bytes.now in
-    ap₂ Whole (c.cycle_of-cycle.ensures ∙ ap (cycle_of (tag s)) (body_part s b.body_length-size.result e)) (ap (λ (n : ℕ). 3 + n) e)
-    ∙ sym (head_whole s (sym t.whole.ensures ∙ t.if-whole.true))
+    let e = c.body_length-size.ensures.0 in
+    let s : List ℕ = c.args.bytes.now in
+    ap₂ Whole (c.cycle_of-cycle.ensures ∙ ap (cycle_of (tag s)) (body_part s c.body_length-size.result e)) (ap (λ (n : ℕ). 3 + n) e)
+    ∙ sym (head_whole s (sym c.whole.ensures ∙ c.if-whole.true))
 
 pub returns : goal.returns
 returns c =
-    let w = c in
-    sym (head_wrong _ (sym w.waits.ensures ∙ w.if-waits.false) (sym w.whole.ensures ∙ c.if-whole.false))
+    sym (head_wrong _ (sym c.waits.ensures ∙ c.if-waits.false) (sym c.whole.ensures ∙ c.if-whole.false))

@@ -1,9 +1,6 @@
 -- `list::number_at` meets its contract. Assumes nothing.
-use mathlib.Core.Path.{sym, ap, ◌∙◌}
-use Prim.Native.Nat.{ℕ, ◌*◌}
-use native.Mathlib.Omega.{arith}
+use Rattle.std.proofs.Common.{sym, ap, ◌∙◌, ℕ, ◌*◌, arith}
 use Rattle.list.proofs.SplitLaws.{word_past, word_last}
-use borrow.Author.Rules.{rules}
 use Rattle.list.proofs.number_at.Goals as goal
 
 pub returns-then-bytes-at : goal.returns-then-bytes-at

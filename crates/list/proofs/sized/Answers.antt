@@ -1,8 +1,6 @@
 -- `list::sized` meets its contract. Assumes nothing.
-use mathlib.Core.Path.{sym}
-use native.Mathlib.Omega.{arith}
+use Rattle.std.proofs.Common.{sym, arith}
 use Rattle.list.proofs.SplitLaws.{sized_is, sized_short}
-use borrow.Author.Rules.{rules}
 use Rattle.list.proofs.sized.Goals as goal
 
 pub returns-then-field-length : goal.returns-then-field-length

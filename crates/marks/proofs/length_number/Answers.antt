@@ -1,6 +1,5 @@
 -- `marks::length_number` meets its contract. Assumes nothing.
 use Rattle.marks.specs.Calls.{length_number}
-use borrow.Author.Rules.{rules}
 use Rattle.marks.proofs.length_number.Goals as goal
 
 pub returns : goal.returns

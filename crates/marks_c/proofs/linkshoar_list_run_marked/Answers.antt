@@ -1,18 +1,14 @@
 -- `marks_c::linkshoar_list_run_marked` meets its contract. Assumes nothing.
-use mathlib.Core.Path.{sym, ◌∙◌}
+use Rattle.std.proofs.Common.{sym, ◌∙◌}
 use Rattle.vram.specs.Board.{effect}
 use Rattle.marks_c.specs.CallLaws.{marked_excluded, marked_done}
-use borrow.Author.Rules.{rules}
 use Rattle.marks_c.proofs.linkshoar_list_run_marked.Goals as goal
 
 pub returns-then-lawful : goal.returns-then-lawful
 returns-then-lawful c =
-    let r = c in
-    let t = r in
-    let l = t in
-    let a = l.args in
-    marked_done effect a.state a.memory.now a.serial.now a.marks.now a.list.now (sym l.lawful.ensures ∙ t.if-lawful.true) t.take.result t.take.ensures
-    r.run-ran.result r.run-ran.new.memory r.run-ran.new.serial r.run-ran.new.marks r.run-ran.ensures c.hand_ran.result c.hand_ran.ensures
+    let a = c.args in
+    marked_done effect a.state a.memory.now a.serial.now a.marks.now a.list.now (sym c.lawful.ensures ∙ c.if-lawful.true) c.take.result c.take.ensures
+    c.run-ran.result c.run-ran.new.memory c.run-ran.new.serial c.run-ran.new.marks c.run-ran.ensures c.hand_ran.result c.hand_ran.ensures
 
 pub returns : goal.returns
 returns c =

@@ -1,6 +1,5 @@
 -- `panel::run` meets its contract. Assumes nothing.
 use Rattle.panel.proofs.PartLaws.{eight_rule}
-use borrow.Author.Rules.{rules}
 use Rattle.panel.proofs.run.Goals as goal
 
 pub returns : goal.returns

@@ -1,8 +1,6 @@
 -- `panel::run_at` meets its contract. Assumes nothing.
-use mathlib.Core.Path.{sym, ◌∙◌}
-use lib.ListN.{length}
+use Rattle.std.proofs.Common.{sym, ◌∙◌, length}
 use Rattle.panel.proofs.CallLaws.{run_zero, run_refuses, run_acts}
-use borrow.Author.Rules.{rules}
 use Rattle.panel.proofs.run_at.Goals as goal
 
 pub returns-then-n-ne-DONE : goal.returns-then-n-ne-DONE
@@ -10,14 +8,10 @@ returns-then-n-ne-DONE c = run_refuses _ _ _ _ _ _ _ _ _ c.refusal-n.ensures c.i
 
 pub run_bytes-requires : goal.run_bytes-requires
 run_bytes-requires c =
-    let e = c in
-    let a = e.args in
-    let z = run_zero a.state a.palette (length a.serial.now) (length a.table.now) a.clocks (length a.out.now) (sym e.refusal-n.ensures ∙ e.if-n-ne-DONE.false) in
+    let a = c.args in
+    let z = run_zero a.state a.palette (length a.serial.now) (length a.table.now) a.clocks (length a.out.now) (sym c.refusal-n.ensures ∙ c.if-n-ne-DONE.false) in
     (z.moves, z.register, z.entries, z.room)
 
 pub returns : goal.returns
 returns c =
-    let d = c in
-    let w = d in
-    let e = w in
-    run_acts _ _ _ _ _ _ _ _ _ e.refusal-n.ensures e.if-n-ne-DONE.false d.clocks-moved.result _ d.clocks-moved.ensures w.run_bytes.ensures
+    run_acts _ _ _ _ _ _ _ _ _ c.refusal-n.ensures c.if-n-ne-DONE.false c.clocks-moved.result _ c.clocks-moved.ensures c.run_bytes.ensures

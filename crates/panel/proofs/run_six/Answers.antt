@@ -1,6 +1,5 @@
 -- `panel::run_six` meets its contract. Assumes nothing.
 use Rattle.panel.proofs.PartLaws.{six_rule}
-use borrow.Author.Rules.{rules}
 use Rattle.panel.proofs.run_six.Goals as goal
 
 pub returns : goal.returns

@@ -1,10 +1,9 @@
 -- `pieces::end` meets its contract. Assumes nothing.
-use mathlib.Core.Path.{sym, ◌∙◌}
+use Rattle.std.proofs.Common.{sym, ◌∙◌, rules}
 use Rattle.vram.specs.Board.{board}
 use Rattle.pieces.specs.Calls.{first_number}
 use Rattle.pieces.specs.PackLaws.{sound_count}
 use Rattle.pieces.specs.CallLaws.{first_zero, end_first, end_done}
-use borrow.Author.Rules.{rules}
 use Rattle.pieces.proofs.end.Goals as goal
 
 pub returns-then-n-ne-DONE : goal.returns-then-n-ne-DONE

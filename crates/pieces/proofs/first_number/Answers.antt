@@ -1,9 +1,6 @@
 -- `pieces::first_number` meets its contract. Assumes nothing.
-use mathlib.Core.Path.{ap₂, ◌∙◌}
-use mathlib.Core.Bool.{Bool}
-use Prim.Native.Nat.{ℕ}
+use Rattle.std.proofs.Common.{ap₂, ◌∙◌, Bool, ℕ, rules}
 use Rattle.numbers.specs.Refuse.{refuse}
-use borrow.Author.Rules.{rules}
 use Rattle.pieces.proofs.first_number.Goals as goal
 
 pub returns : goal.returns

@@ -1,5 +1,5 @@
 -- `pieces::fresh` meets its contract. Assumes nothing.
-use borrow.Author.Rules.{rules}
+use Rattle.std.proofs.Common.{rules}
 use Rattle.pieces.proofs.fresh.Goals as goal
 
 pub returns : goal.returns

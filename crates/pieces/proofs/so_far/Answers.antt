@@ -1,7 +1,6 @@
 -- `pieces::so_far` meets its contract. Assumes nothing.
-use borrow.Author.Tests.{eq-eqb, ne_eqb}
+use Rattle.std.proofs.Common.{eq-eqb, ne_eqb, rules}
 use Rattle.pieces.specs.Line.{so_far}
-use borrow.Author.Rules.{rules}
 use Rattle.pieces.proofs.so_far.Goals as goal
 
 pub returns-then-number-eq-DONE : goal.returns-then-number-eq-DONE

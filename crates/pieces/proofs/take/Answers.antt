@@ -1,11 +1,10 @@
 -- `pieces::take` meets its contract. Assumes nothing.
-use mathlib.Core.Path.{sym, ap, ◌∙◌}
+use Rattle.std.proofs.Common.{sym, ap, ◌∙◌, rules}
 use Rattle.vram.specs.Board.{board}
 use Rattle.pieces.specs.declared.Taken.{Taken}
 use Rattle.pieces.specs.Calls.{first_number, outcome}
 use Rattle.pieces.specs.PackLaws.{sound_is}
 use Rattle.pieces.specs.CallLaws.{first_zero, take_first, take_done}
-use borrow.Author.Rules.{rules}
 use Rattle.pieces.proofs.take.Goals as goal
 
 pub returns-then-n-ne-DONE : goal.returns-then-n-ne-DONE

@@ -1,7 +1,6 @@
 -- `pieces_c::linkshoar_pieces_fresh` meets its contract. Assumes nothing.
-use mathlib.Core.Path.{ap, ◌∙◌}
+use Rattle.std.proofs.Common.{ap, ◌∙◌, rules}
 use Rattle.pieces_c.specs.Line.{handed_line}
-use borrow.Author.Rules.{rules}
 use Rattle.pieces_c.proofs.linkshoar_pieces_fresh.Goals as goal
 
 pub returns : goal.returns

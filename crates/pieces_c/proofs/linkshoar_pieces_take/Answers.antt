@@ -1,9 +1,8 @@
 -- `pieces_c::linkshoar_pieces_take` meets its contract. Assumes nothing.
-use mathlib.Core.Path.{sym, ap, ◌∙◌}
+use Rattle.std.proofs.Common.{sym, ap, ◌∙◌, rules}
 use Rattle.pieces_c.specs.declared.Taken.{Taken}
 use Rattle.pieces_c.specs.Calls.{answered}
 use Rattle.pieces_c.specs.CallLaws.{take_excluded, take_done}
-use borrow.Author.Rules.{rules}
 use Rattle.pieces_c.proofs.linkshoar_pieces_take.Goals as goal
 
 pub returns-then-both_lawful : goal.returns-then-both_lawful

@@ -1,7 +1,5 @@
 -- `planner::across` meets its contract. Assumes nothing.
-use mathlib.Core.Path.{refl}
-use native.Mathlib.Omega.{arith}
-use borrow.Author.Rules.{rules}
+use Rattle.std.proofs.Common.{refl, arith}
 use Rattle.planner.proofs.across.Goals as goal
 
 pub returns : goal.returns

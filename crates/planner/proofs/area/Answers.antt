@@ -1,7 +1,5 @@
 -- `planner::area` meets its contract. Assumes nothing.
-use mathlib.Core.Path.{refl}
-use native.Mathlib.Nat.{mul-le-mul}
-use native.Mathlib.Omega.{arith}
+use Rattle.std.proofs.Common.{refl, mul-le-mul, arith}
 use Rattle.planner.proofs.area.Goals as goal
 
 pub overflow_mul-result : goal.overflow_mul-result

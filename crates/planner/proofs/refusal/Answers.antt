@@ -1,5 +1,4 @@
 -- `planner::refusal` meets its contract. Assumes nothing.
-use borrow.Author.Rules.{rules}
 use Rattle.planner.specs.Calls.{asked_refusal}
 use Rattle.planner.proofs.refusal.Goals as goal
 

@@ -1,8 +1,5 @@
 -- `planner::shape_of` meets its contract. Assumes nothing.
-use borrow.Author.Rules.{rules}
-use mathlib.Core.Path.{◌≡◌, sym, ap, ◌∙◌}
-use Prim.Native.Nat.{ℕ, ◌-◌, ◌*◌}
-use native.Mathlib.Omega.{arith}
+use Rattle.std.proofs.Common.{◌≡◌, sym, ap, ◌∙◌, ℕ, ◌-◌, ◌*◌, arith}
 use Rattle.planner.specs.Fill.{fill}
 use Rattle.planner.specs.Calls.{asked_refusal}
 use Rattle.planner.proofs.CallLaws.{asked_any, asked_sound}
@@ -27,48 +24,36 @@ overflow_sub-width c =
 
 pub returns-then-mask-height : goal.returns-then-mask-height
 returns-then-mask-height c =
-    let i = c in
-    let a = i.args in
+    let a = c.args in
     let f = fill a.rows a.first_row a.end_row a.first_column a.end_column a.mask 0 a.persistent in
-    let z : asked_refusal f ≡ 0 = sym (asked_any a.rows a.first_row a.end_row a.first_column a.end_column a.mask 0 a.persistent i.refusal-number.result i.refusal-number.ensures) ∙ i.if-number-ne-DONE.false in
+    let z : asked_refusal f ≡ 0 = sym (asked_any a.rows a.first_row a.end_row a.first_column a.end_column a.mask 0 a.persistent c.refusal-number.result c.refusal-number.ensures) ∙ c.if-number-ne-DONE.false in
     shape_nothing f z c.if-mask-height.true
 
 pub across-n-requires : goal.across-n-requires
 across-n-requires c =
-    let i = c in
-    let a = i.args in
-    let s = asked_sound (fill a.rows a.first_row a.end_row a.first_column a.end_column 0 0 a.persistent) (sym i.refusal-number.ensures ∙ i.if-number-ne-DONE.false) in (s.column_order, s.column_end)
+    let a = c.args in
+    let s = asked_sound (fill a.rows a.first_row a.end_row a.first_column a.end_column 0 0 a.persistent) (sym c.refusal-number.ensures ∙ c.if-number-ne-DONE.false) in (s.column_order, s.column_end)
 
 pub area-words-requires : goal.area-words-requires
 area-words-requires c =
-    let i = c in
-    let a = i.args in
-    let s = asked_sound (fill a.rows a.first_row a.end_row a.first_column a.end_column 0 0 a.persistent) (sym i.refusal-number.ensures ∙ i.if-number-ne-DONE.false) in omega (arith, s.row_end, s.rows_most, s.column_end)
+    let a = c.args in
+    let s = asked_sound (fill a.rows a.first_row a.end_row a.first_column a.end_column 0 0 a.persistent) (sym c.refusal-number.ensures ∙ c.if-number-ne-DONE.false) in omega (arith, s.row_end, s.rows_most, s.column_end)
 
 pub area-blocks-requires : goal.area-blocks-requires
 area-blocks-requires c =
-    let i = c in
-    let a = i.args in
-    let s = asked_sound (fill a.rows a.first_row a.end_row a.first_column a.end_column 0 0 a.persistent) (sym i.refusal-number.ensures ∙ i.if-number-ne-DONE.false) in omega (arith, s.row_end, s.rows_most, c.across-n.ensures.1)
+    let a = c.args in
+    let s = asked_sound (fill a.rows a.first_row a.end_row a.first_column a.end_column 0 0 a.persistent) (sym c.refusal-number.ensures ∙ c.if-number-ne-DONE.false) in omega (arith, s.row_end, s.rows_most, c.across-n.ensures.1)
 
 pub returns-then-words-blocks : goal.returns-then-words-blocks
 returns-then-words-blocks c =
-    let k = c in
-    let w = k in
-    let e = w in
-    let i = e in
-    let a = i.args in
+    let a = c.args in
     let f = fill a.rows a.first_row a.end_row a.first_column a.end_column a.mask 0 a.persistent in
-    let z : asked_refusal f ≡ 0 = sym (asked_any a.rows a.first_row a.end_row a.first_column a.end_column a.mask 0 a.persistent i.refusal-number.result i.refusal-number.ensures) ∙ i.if-number-ne-DONE.false in
-    shape_words f z e.if-mask-height.false w.area-words.result k.area-blocks.result w.area-words.ensures.0 (k.area-blocks.ensures.0 ∙ ap (λ (n : ℕ). (a.end_row - a.first_row) * n) w.across-n.ensures.0) c.if-words-blocks.true
+    let z : asked_refusal f ≡ 0 = sym (asked_any a.rows a.first_row a.end_row a.first_column a.end_column a.mask 0 a.persistent c.refusal-number.result c.refusal-number.ensures) ∙ c.if-number-ne-DONE.false in
+    shape_words f z c.if-mask-height.false c.area-words.result c.area-blocks.result c.area-words.ensures.0 (c.area-blocks.ensures.0 ∙ ap (λ (n : ℕ). (a.end_row - a.first_row) * n) c.across-n.ensures.0) c.if-words-blocks.true
 
 pub returns-else-words-blocks : goal.returns-else-words-blocks
 returns-else-words-blocks c =
-    let k = c in
-    let w = k in
-    let e = w in
-    let i = e in
-    let a = i.args in
+    let a = c.args in
     let f = fill a.rows a.first_row a.end_row a.first_column a.end_column a.mask 0 a.persistent in
-    let z : asked_refusal f ≡ 0 = sym (asked_any a.rows a.first_row a.end_row a.first_column a.end_column a.mask 0 a.persistent i.refusal-number.result i.refusal-number.ensures) ∙ i.if-number-ne-DONE.false in
-    shape_blocks f z e.if-mask-height.false w.area-words.result k.area-blocks.result w.area-words.ensures.0 (k.area-blocks.ensures.0 ∙ ap (λ (n : ℕ). (a.end_row - a.first_row) * n) w.across-n.ensures.0) c.if-words-blocks.false
+    let z : asked_refusal f ≡ 0 = sym (asked_any a.rows a.first_row a.end_row a.first_column a.end_column a.mask 0 a.persistent c.refusal-number.result c.refusal-number.ensures) ∙ c.if-number-ne-DONE.false in
+    shape_blocks f z c.if-mask-height.false c.area-words.result c.area-blocks.result c.area-words.ensures.0 (c.area-blocks.ensures.0 ∙ ap (λ (n : ℕ). (a.end_row - a.first_row) * n) c.across-n.ensures.0) c.if-words-blocks.false

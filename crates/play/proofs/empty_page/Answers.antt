@@ -1,6 +1,5 @@
 -- `play::empty_page` meets its contract: the zeros are counted by a law, not one by one. Assumes nothing.
-use mathlib.Core.Path.{sym}
-use Prim.Native.Nat.{ℕ}
+use Rattle.std.proofs.Common.{sym, ℕ}
 use lib.ListN.{length-replicate}
 use Rattle.play.proofs.empty_page.Goals as goal
 

@@ -1,5 +1,5 @@
 -- `refusals::fitted` meets its contract. Assumes nothing.
-use mathlib.Core.Path.{refl}
+use Rattle.std.proofs.Common.{refl}
 use Rattle.refusals.proofs.fitted.Goals as goal
 
 pub returns : goal.returns

@@ -1,6 +1,5 @@
 -- `refusals::full_refusal` meets its contract. Assumes nothing.
 use Rattle.refusals.specs.Refusal.{full_refusal}
-use borrow.Author.Rules.{rules}
 use Rattle.refusals.proofs.full_refusal.Goals as goal
 
 pub returns : goal.returns

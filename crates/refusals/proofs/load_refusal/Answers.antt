@@ -1,6 +1,5 @@
 -- `refusals::load_refusal` meets its contract. Assumes nothing.
 use Rattle.refusals.specs.Refusal.{load_refusal}
-use borrow.Author.Rules.{rules}
 use Rattle.refusals.proofs.load_refusal.Goals as goal
 
 pub returns : goal.returns

@@ -1,5 +1,5 @@
 -- `refusals::partition_ok` meets its contract. Assumes nothing.
-use mathlib.Core.Path.{refl}
+use Rattle.std.proofs.Common.{refl}
 use Rattle.refusals.proofs.partition_ok.Goals as goal
 
 pub returns : goal.returns

@@ -1,5 +1,4 @@
 -- `refusals::placed` meets its contract. Assumes nothing.
-use borrow.Author.Rules.{rules}
 use Rattle.refusals.proofs.placed.Goals as goal
 
 pub returns : goal.returns

@@ -1,6 +1,5 @@
 -- `refusals::split_refusal` meets its contract. Assumes nothing.
 use Rattle.refusals.specs.Refusal.{split_refusal}
-use borrow.Author.Rules.{rules}
 use Rattle.refusals.proofs.split_refusal.Goals as goal
 
 pub returns : goal.returns

@@ -1,6 +1,5 @@
 -- `refusals::stop_refusal` meets its contract. Assumes nothing.
 use Rattle.refusals.specs.Refusal.{stop_refusal}
-use borrow.Author.Rules.{rules}
 use Rattle.refusals.proofs.stop_refusal.Goals as goal
 
 pub returns : goal.returns

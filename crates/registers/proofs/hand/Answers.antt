@@ -1,5 +1,4 @@
 -- `registers::hand` meets its contract. Assumes nothing.
-use borrow.Author.Rules.{rules}
 use Rattle.registers.specs.State.{handed}
 use Rattle.registers.proofs.hand.Goals as goal
 

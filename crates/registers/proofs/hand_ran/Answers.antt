@@ -1,5 +1,4 @@
 -- `registers::hand_ran` meets its contract. Assumes nothing.
-use borrow.Author.Rules.{rules}
 use Rattle.registers.proofs.hand_ran.Goals as goal
 
 pub returns : goal.returns

@@ -1,5 +1,4 @@
 -- `registers::lawful` meets its contract. Assumes nothing.
-use borrow.Author.Rules.{rules}
 use Rattle.registers.specs.State.{lawful}
 use Rattle.registers.proofs.lawful.Goals as goal
 

@@ -1,5 +1,4 @@
 -- `registers::take` meets its contract. Assumes nothing.
-use borrow.Author.Rules.{rules}
 use Rattle.registers.specs.State.{taken}
 use Rattle.registers.proofs.take.Goals as goal
 

@@ -1,5 +1,5 @@
 -- `registers::waiting_of` meets its contract. Assumes nothing.
-use borrow.Author.Tests.{eq-eqb, ne_eqb}
+use Rattle.std.proofs.Common.{eq-eqb, ne_eqb}
 use Rattle.registers.proofs.waiting_of.Goals as goal
 
 pub returns-then-waiting-eq0 : goal.returns-then-waiting-eq0

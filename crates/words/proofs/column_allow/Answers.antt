@@ -1,6 +1,5 @@
 -- `words::column_allow` meets its contract. Assumes nothing.
-use Prim.Native.Nat.{◌%◌}
-use borrow.Author.Rules.{rules}
+use Rattle.std.proofs.Common.{◌%◌}
 use Rattle.words.specs.CodeLaws.{column_law}
 use Rattle.words.proofs.column_allow.Goals as goal
 

@@ -1,5 +1,5 @@
 -- `words::strobe_mask` meets its contract: each arm's word is computed from the definition. Assumes nothing.
-use native.Mathlib.Omega.{arith}
+use Rattle.std.proofs.Common.{arith}
 use Rattle.words.specs.Bit.{bit, of_bits}
 use Rattle.words.specs.Word.{covers}
 use Rattle.words.specs.CodeLaws.{strobes_low}

@@ -1,5 +1,5 @@
 -- `colours::Colours::fresh` meets its contract. Assumes nothing.
-use mathlib.Core.Path.{refl}
+use Rattle.std.proofs.Common.{refl}
 use Rattle.colours.proofs.Colours.fresh.Goals as goal
 
 pub returns : goal.returns

@@ -1,5 +1,4 @@
 -- `colours::Colours::refusal` meets its contract. Assumes nothing.
-use borrow.Author.Rules.{rules}
 use Rattle.colours.proofs.Colours.refusal.Goals as goal
 
 pub returns : goal.returns

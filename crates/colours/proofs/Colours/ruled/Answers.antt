@@ -1,5 +1,4 @@
 -- `colours::Colours::ruled` meets its contract. Assumes nothing.
-use borrow.Author.Rules.{rules}
 use Rattle.colours.specs.State.{ruled}
 use Rattle.colours.proofs.Colours.ruled.Goals as goal
 

@@ -1,5 +1,4 @@
 -- `colours::Output::levels` meets its contract. Assumes nothing.
-use borrow.Author.Rules.{rules}
 use Rattle.colours.proofs.Output.levels.Goals as goal
 
 pub returns-in-Sync : goal.returns-in-Sync

@@ -1,5 +1,5 @@
 -- `colours::Output::zeros` meets its contract. Assumes nothing.
-use mathlib.Core.Path.{refl}
+use Rattle.std.proofs.Common.{refl}
 use Rattle.colours.proofs.Output.zeros.Goals as goal
 
 pub returns : goal.returns

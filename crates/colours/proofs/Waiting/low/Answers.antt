@@ -1,6 +1,5 @@
 -- `colours::Waiting::low` meets its contract. Assumes nothing.
-use mathlib.Core.Path.{sym, ap}
-use borrow.Author.Rules.{rules}
+use Rattle.std.proofs.Common.{sym, ap}
 use Rattle.colours.specs.State.{low_waiting}
 use Rattle.colours.proofs.Waiting.low.Goals as goal
 

@@ -1,6 +1,5 @@
 -- `colours::Waiting::waits` meets its contract. Assumes nothing.
-use mathlib.Core.Path.{sym, ap}
-use borrow.Author.Rules.{rules}
+use Rattle.std.proofs.Common.{sym, ap}
 use Rattle.colours.specs.State.{waits}
 use Rattle.colours.proofs.Waiting.waits.Goals as goal
 

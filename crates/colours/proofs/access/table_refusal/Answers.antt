@@ -1,5 +1,4 @@
 -- `colours::access::table_refusal` meets its contract. Assumes nothing.
-use borrow.Author.Rules.{rules}
 use Rattle.colours.proofs.access.table_refusal.Goals as goal
 
 pub returns : goal.returns

@@ -1,6 +1,5 @@
 -- `colours::access::word_at` meets its contract. Assumes nothing.
-use mathlib.Core.Path.{refl}
-use borrow.Author.Rules.{rules}
+use Rattle.std.proofs.Common.{refl}
 use Rattle.colours.proofs.access.word_at.Goals as goal
 
 pub returns : goal.returns

@@ -1,8 +1,7 @@
 -- `colours::asks::blinked` meets its contract. Assumes nothing.
-use mathlib.Core.Path.{sym}
+use Rattle.std.proofs.Common.{sym}
 use Rattle.words.specs.Bit.{bit}
 use Rattle.colours.specs.OutputLaws.{blink_on, blink_off}
-use borrow.Author.Rules.{rules}
 use Rattle.colours.proofs.asks.blinked.Goals as goal
 
 pub returns-then-blink-word : goal.returns-then-blink-word

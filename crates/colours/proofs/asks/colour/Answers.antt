@@ -1,6 +1,5 @@
 -- `colours::asks::colour` meets its contract. Assumes nothing.
-use mathlib.Core.Path.{refl}
-use borrow.Author.Rules.{rules}
+use Rattle.std.proofs.Common.{refl}
 use Rattle.colours.proofs.asks.colour.Goals as goal
 
 pub returns : goal.returns

@@ -1,5 +1,5 @@
 -- `colours::asks::overlaid` meets its contract. Assumes nothing.
-use mathlib.Core.Path.{sym, ap}
+use Rattle.std.proofs.Common.{sym, ap}
 use Rattle.colours.specs.Output.{overlaid}
 use Rattle.colours.proofs.asks.overlaid.Goals as goal
 

@@ -1,10 +1,8 @@
 -- `colours::reads::read` meets its contract. Assumes nothing.
-use mathlib.Core.Path.{sym, ◌∙◌}
-use lib.ListN.{length}
+use Rattle.std.proofs.Common.{sym, ◌∙◌, length}
 use Rattle.numbers.specs.RefuseLaws.{refused_is, done_is}
 use Rattle.colours.specs.Calls.{read_refusal, worded, read_call}
 use Rattle.colours.proofs.CallLaws.{read_zero}
-use borrow.Author.Rules.{rules}
 use Rattle.colours.proofs.reads.read.Goals as goal
 
 pub returns-then-n-ne-DONE : goal.returns-then-n-ne-DONE
@@ -14,14 +12,11 @@ returns-then-n-ne-DONE c = refused_is worded _ _ _ _ c.table_refusal-n.ensures c
 pub word_at-requires : goal.word_at-requires
 unfolding read_refusal
 word_at-requires c =
-    let d = c in
-    let a = d.args in
-    let g = read_zero (length a.table.now) a.address (sym d.table_refusal-n.ensures ∙ c.if-n-ne-DONE.false) in
+    let a = c.args in
+    let g = read_zero (length a.table.now) a.address (sym c.table_refusal-n.ensures ∙ c.if-n-ne-DONE.false) in
     (g.table, g.within)
 
 pub returns : goal.returns
 unfolding read_call read_refusal
 returns c =
-    let e = c in
-    let d = e in
-    done_is worded d.table_refusal-n.result _ _ _ _ d.table_refusal-n.ensures e.if-n-ne-DONE.false c.word_at.ensures
+    done_is worded c.table_refusal-n.result _ _ _ _ c.table_refusal-n.ensures c.if-n-ne-DONE.false c.word_at.ensures

@@ -1,9 +1,8 @@
 -- `colours::reads::read_high` meets its contract. Assumes nothing.
-use mathlib.Core.Path.{ap}
+use Rattle.std.proofs.Common.{ap}
 use Rattle.colours.specs.declared.Word.{Word}
 use Rattle.colours.specs.Table.{high_of}
 use Rattle.colours.specs.Calls.{byted, read_high_call}
-use borrow.Author.Rules.{rules}
 use Rattle.colours.proofs.reads.read_high.Goals as goal
 
 pub returns : goal.returns

@@ -1,9 +1,8 @@
 -- `colours::reads::read_low` meets its contract. Assumes nothing.
-use mathlib.Core.Path.{ap}
+use Rattle.std.proofs.Common.{ap}
 use Rattle.colours.specs.declared.Word.{Word}
 use Rattle.colours.specs.Table.{low_of}
 use Rattle.colours.specs.Calls.{byted, read_low_call}
-use borrow.Author.Rules.{rules}
 use Rattle.colours.proofs.reads.read_low.Goals as goal
 
 pub returns : goal.returns

@@ -1,5 +1,4 @@
 -- `colours_c::answers::answer` meets its contract. Assumes nothing.
-use borrow.Author.Rules.{rules}
 use Rattle.colours_c.proofs.answers.answer.Goals as goal
 
 pub returns : goal.returns

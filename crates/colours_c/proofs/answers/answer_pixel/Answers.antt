@@ -1,8 +1,7 @@
 -- `colours_c::answers::answer_pixel` meets its contract. Assumes nothing.
-use mathlib.Core.Path.{sym, ◌∙◌}
+use Rattle.std.proofs.Common.{sym, ◌∙◌}
 use Rattle.numbers.specs.RefuseLaws.{leaves_made, leaves_before}
 use Rattle.colours_c.specs.Calls.{pixel_refused}
-use borrow.Author.Rules.{rules}
 use Rattle.colours_c.proofs.answers.answer_pixel.Goals as goal
 
 pub returns-then-number-ne-DONE : goal.returns-then-number-ne-DONE
@@ -12,6 +11,5 @@ returns-then-number-ne-DONE c =
 
 pub returns : goal.returns
 returns c =
-    let h = c in
-    let a = h.args in
-    rw h.hand_output-third.ensures (sym (leaves_made a.asked.number (pixel_refused a.asked.number a.state) _ h.if-number-ne-DONE.false))
+    let a = c.args in
+    rw c.hand_output-third.ensures (sym (leaves_made a.asked.number (pixel_refused a.asked.number a.state) _ c.if-number-ne-DONE.false))

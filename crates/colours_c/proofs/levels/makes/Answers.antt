@@ -1,7 +1,7 @@
 -- `colours_c::levels::makes` meets its contract. Assumes nothing.
-use borrow.Author.Tests.{le-leb, lt-leb}
+use Rattle.std.proofs.Common.{le-leb}
+use borrow.Author.Tests.{lt-leb}
 use Rattle.colours_c.specs.Levels.{makes}
-use borrow.Author.Rules.{rules}
 use Rattle.colours_c.proofs.levels.makes.Goals as goal
 
 pub returns-then-green-le15 : goal.returns-then-green-le15
@@ -15,10 +15,9 @@ returns-then-green-le17 c = rw (lt-leb _ 15 c.if-green-le15.false, le-leb _ 17 c
 pub returns : goal.returns
 unfolding makes
 returns c =
-    let i = c in
     rw (
-      lt-leb _ 15 i.if-green-le15.false,
-      lt-leb _ 17 i.if-green-le17.false,
+      lt-leb _ 15 c.if-green-le15.false,
+      lt-leb _ 17 c.if-green-le17.false,
       c.black_or_white.ensures,
       c.black_or_white-2.ensures,
       c.black_or_white-3.ensures,

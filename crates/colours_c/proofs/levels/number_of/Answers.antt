@@ -1,6 +1,5 @@
 -- `colours_c::levels::number_of` meets its contract. Assumes nothing.
-use mathlib.Core.Path.{sym, ap}
-use borrow.Author.Rules.{rules}
+use Rattle.std.proofs.Common.{sym, ap}
 use Rattle.colours_c.specs.Levels.{number_of}
 use Rattle.colours_c.proofs.levels.number_of.Goals as goal
 

@@ -1,5 +1,6 @@
 -- `colours_c::levels::take_output` meets its contract. Assumes nothing.
-use borrow.Author.Tests.{eq-eqb, ne_eqb, le-leb, lt-leb}
+use Rattle.std.proofs.Common.{eq-eqb, ne_eqb, le-leb}
+use borrow.Author.Tests.{lt-leb}
 use Rattle.colours_c.specs.Levels.{taken_output}
 use Rattle.colours_c.proofs.levels.take_output.Goals as goal
 
@@ -14,8 +15,7 @@ returns-then-green-eq17 c = rw (ne_eqb _ 16 c.if-green-eq16.false, eq-eqb _ 17 c
 pub returns-then-green-ge18 : goal.returns-then-green-ge18
 unfolding taken_output
 returns-then-green-ge18 c =
-    let t = c in
-    rw (ne_eqb _ 16 t.if-green-eq16.false, ne_eqb _ 17 t.if-green-eq17.false, le-leb 18 _ t.if-green-ge18.true)
+    rw (ne_eqb _ 16 c.if-green-eq16.false, ne_eqb _ 17 c.if-green-eq17.false, le-leb 18 _ c.if-green-ge18.true)
 
 pub returns : goal.returns
 unfolding taken_output

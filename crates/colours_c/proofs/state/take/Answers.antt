@@ -1,6 +1,5 @@
 -- `colours_c::state::take` meets its contract. Assumes nothing.
 use Rattle.colours_c.specs.State.{taken}
-use borrow.Author.Rules.{rules}
 use Rattle.colours_c.proofs.state.take.Goals as goal
 
 pub returns : goal.returns

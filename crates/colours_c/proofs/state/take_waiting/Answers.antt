@@ -1,5 +1,5 @@
 -- `colours_c::state::take_waiting` meets its contract. Assumes nothing.
-use borrow.Author.Tests.{eq-eqb, ne_eqb}
+use Rattle.std.proofs.Common.{eq-eqb, ne_eqb}
 use Rattle.colours_c.proofs.state.take_waiting.Goals as goal
 
 pub returns-then-waiting-eq0 : goal.returns-then-waiting-eq0

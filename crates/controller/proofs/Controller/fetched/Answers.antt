@@ -1,5 +1,5 @@
 -- `controller::Controller::fetched` meets its contract. Assumes nothing.
-use Rattle.std.proofs.Common.{refl, arith, rules}
+use Rattle.std.proofs.Common.{refl, arith}
 use Rattle.controller.proofs.Controller.fetched.Goals as goal
 
 pub overflow_cast-bank : goal.overflow_cast-bank

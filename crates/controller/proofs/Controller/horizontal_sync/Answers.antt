@@ -1,5 +1,5 @@
 -- `controller::Controller::horizontal_sync` meets its contract. Assumes nothing.
-use Rattle.std.proofs.Common.{ap, ◌∙◌, rules}
+use Rattle.std.proofs.Common.{ap, ◌∙◌}
 use Rattle.controller.specs.StateLaws.{ruled_whole}
 use Rattle.controller.specs.Effect.{refreshed}
 use Rattle.controller.specs.Calls.{HorizontalSync, allows, against, effect}
@@ -9,22 +9,17 @@ use Rattle.controller.proofs.Controller.horizontal_sync.Goals as goal
 pub returns-then-n-ne-DONE : goal.returns-then-n-ne-DONE
 unfolding allows against
 returns-then-n-ne-DONE c =
-    let d = c in
-    c.controlled.ensures ∙ call_refused HorizontalSync d.args.self _ d.refusal-n.ensures c.if-n-ne-DONE.true
+    c.controlled.ensures ∙ call_refused HorizontalSync c.args.self _ c.refusal-n.ensures c.if-n-ne-DONE.true
 
 pub advanced-requires : goal.advanced-requires
 unfolding allows against
 advanced-requires c =
-    let d = c in
-    let s = d.args.self in
-    ruled_whole s (call_given HorizontalSync s d.refusal-n.result d.refusal-n.ensures c.if-n-ne-DONE.false).rule
+    let s = c.args.self in
+    ruled_whole s (call_given HorizontalSync s c.refusal-n.result c.refusal-n.ensures c.if-n-ne-DONE.false).rule
 
 pub returns : goal.returns
 unfolding allows against effect
 returns c =
-    let f = c in
-    let i = f in
-    let d = i in
     c.controlled-2.ensures
-    ∙ call_done HorizontalSync d.args.self d.refusal-n.result d.refusal-n.ensures i.if-n-ne-DONE.false
-    (f.refreshed.ensures ∙ ap refreshed f.advanced.ensures)
+    ∙ call_done HorizontalSync c.args.self c.refusal-n.result c.refusal-n.ensures c.if-n-ne-DONE.false
+    (c.refreshed.ensures ∙ ap refreshed c.advanced.ensures)

@@ -1,5 +1,5 @@
 -- `controller::Controller::interleaves` meets its contract. Assumes nothing.
-use Rattle.std.proofs.Common.{sym, ap, rules}
+use Rattle.std.proofs.Common.{sym, ap}
 use Rattle.controller.specs.State.{interleaves}
 use Rattle.controller.proofs.Controller.interleaves.Goals as goal
 

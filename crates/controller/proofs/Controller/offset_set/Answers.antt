@@ -1,5 +1,4 @@
 -- `controller::Controller::offset_set` meets its contract. Assumes nothing.
-use Rattle.std.proofs.Common.{rules}
 use Rattle.controller.proofs.Controller.offset_set.Goals as goal
 
 pub returns : goal.returns

@@ -1,5 +1,5 @@
 -- `controller::Controller::overrides` meets its contract. Assumes nothing.
-use Rattle.std.proofs.Common.{sym, ap, rules}
+use Rattle.std.proofs.Common.{sym, ap}
 use Rattle.controller.specs.State.{overrides}
 use Rattle.controller.proofs.Controller.overrides.Goals as goal
 

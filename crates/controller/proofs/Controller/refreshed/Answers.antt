@@ -1,5 +1,4 @@
 -- `controller::Controller::refreshed` meets its contract. Assumes nothing.
-use Rattle.std.proofs.Common.{rules}
 use Rattle.controller.proofs.Controller.refreshed.Goals as goal
 
 pub returns : goal.returns

@@ -1,5 +1,4 @@
 -- `controller::Controller::refusal` meets its contract. Assumes nothing.
-use Rattle.std.proofs.Common.{rules}
 use Rattle.controller.specs.Calls.{refusal}
 use Rattle.controller.proofs.Controller.refusal.Goals as goal
 

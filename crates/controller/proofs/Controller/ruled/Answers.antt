@@ -1,5 +1,4 @@
 -- `controller::Controller::ruled` meets its contract. Assumes nothing.
-use Rattle.std.proofs.Common.{rules}
 use Rattle.controller.specs.State.{ruled}
 use Rattle.controller.proofs.Controller.ruled.Goals as goal
 

@@ -1,5 +1,4 @@
 -- `controller::Controller::video_set` meets its contract. Assumes nothing.
-use Rattle.std.proofs.Common.{rules}
 use Rattle.controller.proofs.Controller.video_set.Goals as goal
 
 pub returns : goal.returns

@@ -1,5 +1,5 @@
 -- `controller::settings::panned` meets its contract: the machine's three sums are the integers' own. Assumes nothing.
-use Rattle.std.proofs.Common.{◌≡◌, ℕ, ◌%◌, ◌<◌, true, T, ℤ, pos, ◌+ℤ◌, nat_abs, sym, ap, ◌∙◌, subst, ap₂, arith, w32, Fits, SFits, to_z, of_z, rules}
+use Rattle.std.proofs.Common.{◌≡◌, ℕ, ◌%◌, ◌<◌, true, T, ℤ, pos, ◌+ℤ◌, nat_abs, sym, ap, ◌∙◌, subst, ap₂, arith, w32, Fits, SFits, to_z, of_z}
 use lib.Signed.{non_neg}
 use mir.ValLaws.{to_z_pos, to_z-of_z}
 use Rattle.controller.specs.Address.{reaches}

@@ -1,5 +1,4 @@
 -- `controller_c::answers::answer` meets its contract. Assumes nothing.
-use borrow.Author.Rules.{rules}
 use Rattle.controller_c.proofs.answers.answer.Goals as goal
 
 pub returns : goal.returns

@@ -1,5 +1,4 @@
 -- `controller_c::state::hand` meets its contract. Assumes nothing.
-use borrow.Author.Rules.{rules}
 use Rattle.controller_c.specs.State.{handed}
 use Rattle.controller_c.proofs.state.hand.Goals as goal
 

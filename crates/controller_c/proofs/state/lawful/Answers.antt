@@ -1,5 +1,5 @@
 -- `controller_c::state::lawful` meets its contract. Assumes nothing.
-use mathlib.Core.Path.{refl}
+use Rattle.std.proofs.Common.{refl}
 use Rattle.controller_c.specs.State.{lawful}
 use Rattle.controller_c.proofs.state.lawful.Goals as goal
 

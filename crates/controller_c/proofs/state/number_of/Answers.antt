@@ -1,6 +1,5 @@
 -- `controller_c::state::number_of` meets its contract. Assumes nothing.
-use mathlib.Core.Path.{sym, ap}
-use borrow.Author.Rules.{rules}
+use Rattle.std.proofs.Common.{sym, ap}
 use Rattle.controller_c.specs.State.{number_of}
 use Rattle.controller_c.proofs.state.number_of.Goals as goal
 

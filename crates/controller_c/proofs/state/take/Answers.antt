@@ -1,5 +1,4 @@
 -- `controller_c::state::take` meets its contract. Assumes nothing.
-use borrow.Author.Rules.{rules}
 use Rattle.controller_c.specs.State.{taken}
 use Rattle.controller_c.proofs.state.take.Goals as goal
 

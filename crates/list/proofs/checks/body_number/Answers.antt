@@ -1,16 +1,12 @@
 -- `list::checks::body_number` meets its contract. Assumes nothing.
-use Rattle.std.proofs.Common.{◌≢◌, ◌∙◌}
-use native.Mathlib.Omega.{arith}
-use lib.Dec.{leb}
-use borrow.Author.Tests.{leb-true}
+use Rattle.std.proofs.Common.{◌≢◌, ◌∙◌, arith, leb, leb-true}
 use Rattle.numbers.specs.Between.{both}
 use Rattle.list.specs.TagLaws.{number_write, number_load, number_full, number_split, number_stop, number_none, number_reset, len_write, len_load, len_transfer, len_stop}
 use Rattle.list.proofs.checks.body_number.Goals as goal
 
 pub write_number-requires : goal.write_number-requires
 write_number-requires c =
-    let t = c in
-    t.requires ∙ len_write _ (omega (arith, leb-true t.args.tag 2 (both (leb 1 t.args.tag) (leb t.args.tag 2) c.if-tag.true).1))
+    c.requires ∙ len_write _ (omega (arith, leb-true c.args.tag 2 (both (leb 1 c.args.tag) (leb c.args.tag 2) c.if-tag.true).1))
 
 pub full_number-requires : goal.full_number-requires
 full_number-requires c = c.requires ∙ len_transfer _ (omega (arith, c.in-6.is)) (omega (arith, c.in-6.is))

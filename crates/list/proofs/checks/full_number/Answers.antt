@@ -1,5 +1,4 @@
 -- `list::checks::full_number` meets its contract. Assumes nothing.
-use borrow.Author.Rules.{rules}
 use Rattle.list.proofs.checks.full_number.Goals as goal
 
 pub returns : goal.returns

@@ -1,5 +1,4 @@
 -- `list::checks::split_number` meets its contract. Assumes nothing.
-use borrow.Author.Rules.{rules}
 use Rattle.list.proofs.checks.split_number.Goals as goal
 
 pub returns : goal.returns

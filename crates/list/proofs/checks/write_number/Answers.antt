@@ -1,5 +1,4 @@
 -- `list::checks::write_number` meets its contract. Assumes nothing.
-use borrow.Author.Rules.{rules}
 use Rattle.list.proofs.checks.write_number.Goals as goal
 
 pub returns : goal.returns

@@ -1,7 +1,6 @@
 -- `list::fields::body_length` meets its contract. Assumes nothing.
-use mathlib.Core.Path.{refl}
-use native.Mathlib.Omega.{arith}
-use borrow.Author.Tests.{le-leb, lt-leb, eq-eqb, ne_eqb}
+use Rattle.std.proofs.Common.{refl, arith, le-leb, eq-eqb, ne_eqb}
+use borrow.Author.Tests.{lt-leb}
 use Rattle.list.specs.Tags.{len_of}
 use Rattle.list.proofs.fields.body_length.Goals as goal
 
@@ -20,13 +19,11 @@ returns-then-tag-eq5 c = rw (lt-leb _ 2 c.if-tag-le2.false, lt-leb _ 4 c.if-tag-
 pub returns-then-tag-le7 : goal.returns-then-tag-le7
 unfolding len_of
 returns-then-tag-le7 c =
-    let b = c in
-    rw (lt-leb _ 2 b.if-tag-le2.false, lt-leb _ 4 b.if-tag-le4.false, ne_eqb _ 5 b.if-tag-eq5.false, le-leb _ 7 c.if-tag-le7.true)
+    rw (lt-leb _ 2 c.if-tag-le2.false, lt-leb _ 4 c.if-tag-le4.false, ne_eqb _ 5 c.if-tag-eq5.false, le-leb _ 7 c.if-tag-le7.true)
     (refl, omega arith)
 
 pub returns-else-tag-le7 : goal.returns-else-tag-le7
 unfolding len_of
 returns-else-tag-le7 c =
-    let b = c in
-    rw (lt-leb _ 2 b.if-tag-le2.false, lt-leb _ 4 b.if-tag-le4.false, ne_eqb _ 5 b.if-tag-eq5.false, lt-leb _ 7 c.if-tag-le7.false)
+    rw (lt-leb _ 2 c.if-tag-le2.false, lt-leb _ 4 c.if-tag-le4.false, ne_eqb _ 5 c.if-tag-eq5.false, lt-leb _ 7 c.if-tag-le7.false)
     (refl, omega arith)

@@ -1,5 +1,4 @@
 -- `list::fields::headed` meets its contract. Assumes nothing.
-use borrow.Author.Rules.{rules}
 use Rattle.list.proofs.fields.headed.Goals as goal
 
 pub returns : goal.returns

@@ -1,10 +1,6 @@
 -- `list::fields::known` meets its contract. Assumes nothing.
-use mathlib.Core.Path.{◌≡◌, refl}
-use mathlib.Core.Bool.{Bool, true, false, ◌&&◌, ◌||◌}
-use mathlib.Core.Logic.{◌≢◌}
-use native.Mathlib.Omega.{arith}
-use lib.Dec.{leb}
-use borrow.Author.Tests.{le-leb, lt-leb, ne_eqb}
+use Rattle.std.proofs.Common.{◌≡◌, refl, Bool, true, false, ◌&&◌, ◌||◌, ◌≢◌, arith, leb, le-leb, ne_eqb}
+use borrow.Author.Tests.{lt-leb}
 use Rattle.list.specs.Tags.{known}
 use Rattle.list.proofs.fields.known.Goals as goal
 

@@ -1,7 +1,7 @@
 -- `list::fields::waits` meets its contract. Assumes nothing.
-use borrow.Author.Tests.{le-leb, lt-leb}
+use Rattle.std.proofs.Common.{le-leb}
+use borrow.Author.Tests.{lt-leb}
 use Rattle.list.specs.Waits.{waits}
-use borrow.Author.Rules.{rules}
 use Rattle.list.proofs.fields.waits.Goals as goal
 
 pub returns-then-field-lt3 : goal.returns-then-field-lt3

@@ -1,8 +1,6 @@
 -- `list::fields::whole` meets its contract. Assumes nothing.
-use mathlib.Core.Path.{sym, ◌∙◌}
-use native.Mathlib.Omega.{arith}
+use Rattle.std.proofs.Common.{sym, ◌∙◌, arith}
 use Rattle.list.proofs.FieldLaws.{whole_is, whole_short}
-use borrow.Author.Rules.{rules}
 use Rattle.list.proofs.fields.whole.Goals as goal
 
 pub returns-then-field-end : goal.returns-then-field-end

@@ -1,6 +1,5 @@
 -- `list::fields::word_at` meets its contract. Assumes nothing.
 use Rattle.list.specs.Tags.{word}
-use borrow.Author.Rules.{rules}
 use Rattle.list.proofs.fields.word_at.Goals as goal
 
 pub returns : goal.returns

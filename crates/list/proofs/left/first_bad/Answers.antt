@@ -1,5 +1,5 @@
 -- `list::left::first_bad` meets its contract. Assumes nothing.
-use mathlib.Core.Path.{sym}
+use Rattle.std.proofs.Common.{sym}
 use Rattle.list.proofs.JudgeLaws.{bad_first, bad_later}
 use Rattle.list.proofs.left.first_bad.Goals as goal
 

@@ -1,5 +1,4 @@
 -- `list::left::left_behind` meets its contract. Assumes nothing.
-use borrow.Author.Rules.{rules}
 use Rattle.list.specs.Meaning.{left_behind}
 use Rattle.list.proofs.left.left_behind.Goals as goal
 

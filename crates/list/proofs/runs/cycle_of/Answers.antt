@@ -1,7 +1,5 @@
 -- `list::runs::cycle_of` meets its contract. Assumes nothing.
-use Rattle.std.proofs.Common.{◌≢◌, ◌∙◌}
-use native.Mathlib.Omega.{arith}
-use borrow.Author.Tests.{ne_eqb}
+use Rattle.std.proofs.Common.{◌≢◌, ◌∙◌, arith, ne_eqb}
 use Rattle.list.specs.TagLaws.{len_write, len_load, len_transfer, len_stop}
 use Rattle.list.specs.Tags.{cycle_of}
 use Rattle.list.proofs.runs.cycle_of.Goals as goal

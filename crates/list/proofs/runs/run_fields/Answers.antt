@@ -1,14 +1,7 @@
 -- `list::runs::run_fields` meets its contract: one turn of the loop is one cycle run. Assumes nothing.
-use mathlib.Core.Path.{◌≡◌, refl, ◌∙◌}
-use mathlib.Core.Bool.{true}
-use native.Mathlib.Omega.{arith}
-use lib.ListN.{length}
+use Rattle.std.proofs.Common.{refl, ◌∙◌, arith}
 use Rattle.vram.specs.Board.{board}
-use Rattle.vram.specs.Step.{run}
-use Rattle.list.specs.Meaning.{readable, cycles_of}
-use Rattle.list.specs.Fields.{fields}
 use Rattle.list.proofs.Turns.{end_run, run_fits, run_readable, turn_run, rest_less}
-use borrow.Author.Rules.{rules}
 use Rattle.list.proofs.runs.run_fields.Goals as goal
 
 pub loop-rest-init : goal.loop-rest-init
@@ -16,42 +9,31 @@ loop-rest-init c = (refl, refl, c.requires, refl)
 
 pub slice_bounds-cycle_of-end : goal.slice_bounds-cycle_of-end
 slice_bounds-cycle_of-end c =
-    let t = c in
-    omega (arith, run_fits t.loop-rest.rest.now t.loop-rest-test.true t.loop-rest.invariant.2 c.body_length-size.result c.body_length-size.ensures.0)
+    omega (arith, run_fits c.loop-rest.rest.now c.loop-rest-test.true c.loop-rest.invariant.2 c.body_length-size.result c.body_length-size.ensures.0)
 
 pub slice_bounds-rest-count : goal.slice_bounds-rest-count
 slice_bounds-rest-count c =
-    let b = c in
-    let t = b in
-    omega (arith, run_fits t.loop-rest.rest.now t.loop-rest-test.true t.loop-rest.invariant.2 b.body_length-size.result b.body_length-size.ensures.0)
+    omega (arith, run_fits c.loop-rest.rest.now c.loop-rest-test.true c.loop-rest.invariant.2 c.body_length-size.result c.body_length-size.ensures.0)
 
 pub slice_bounds-rest-start : goal.slice_bounds-rest-start
 slice_bounds-rest-start c =
-    let b = c in
-    let t = b in
-    omega (arith, run_fits t.loop-rest.rest.now t.loop-rest-test.true t.loop-rest.invariant.2 b.body_length-size.result b.body_length-size.ensures.0)
+    omega (arith, run_fits c.loop-rest.rest.now c.loop-rest-test.true c.loop-rest.invariant.2 c.body_length-size.result c.body_length-size.ensures.0)
 
 pub loop-rest-preserved : goal.loop-rest-preserved
 loop-rest-preserved c =
-    let k = c in
-    let f = k in
-    let b = f in
-    let t = b in
-    let l = t.loop-rest in (
-      k.cycle-answer.auto.memory ∙ l.invariant.0,
-      k.cycle-answer.auto.serial ∙ l.invariant.1,
-      run_readable l.rest.now t.loop-rest-test.true l.invariant.2 b.body_length-size.result b.body_length-size.ensures.0,
-      turn_run l.rest.now t.loop-rest-test.true l.invariant.2 b.body_length-size.result b.body_length-size.ensures.0
-          (board l.current l.memory l.serial) f.cycle_of-cycle.result f.cycle_of-cycle.ensures _ k.cycle-answer.ensures
+    let l = c.loop-rest in (
+      c.cycle-answer.auto.memory ∙ l.invariant.0,
+      c.cycle-answer.auto.serial ∙ l.invariant.1,
+      run_readable l.rest.now c.loop-rest-test.true l.invariant.2 c.body_length-size.result c.body_length-size.ensures.0,
+      turn_run l.rest.now c.loop-rest-test.true l.invariant.2 c.body_length-size.result c.body_length-size.ensures.0
+          (board l.current l.memory l.serial) c.cycle_of-cycle.result c.cycle_of-cycle.ensures _ c.cycle-answer.ensures
           ∙ l.invariant.3,
     )
 
 pub loop-rest-smaller : goal.loop-rest-smaller
 loop-rest-smaller c =
-    let b = c in
-    let t = b in
-    rest_less t.loop-rest.rest.now b.body_length-size.result b.body_length-size.ensures.0
-    (run_fits t.loop-rest.rest.now t.loop-rest-test.true t.loop-rest.invariant.2 b.body_length-size.result b.body_length-size.ensures.0)
+    rest_less c.loop-rest.rest.now c.body_length-size.result c.body_length-size.ensures.0
+    (run_fits c.loop-rest.rest.now c.loop-rest-test.true c.loop-rest.invariant.2 c.body_length-size.result c.body_length-size.ensures.0)
 
 pub shape_of-memory : goal.shape_of-memory
 shape_of-memory c = c.loop-rest.invariant.0

@@ -1,14 +1,9 @@
 -- `list::runs::run_fields` meets its contract: one turn of the loop is one cycle run. Assumes nothing.
-use mathlib.Core.Path.{◌≡◌, refl, ◌∙◌}
-use mathlib.Core.Bool.{true}
-use native.Mathlib.Omega.{arith}
-use lib.ListN.{length}
+use Rattle.std.proofs.Common.{◌≡◌, true, length}
 use Rattle.vram.specs.Board.{board}
 use Rattle.vram.specs.Step.{run}
 use Rattle.list.specs.Meaning.{readable, cycles_of}
 use Rattle.list.specs.Fields.{fields}
-use Rattle.list.proofs.Turns.{end_run, run_fits, run_readable, turn_run, rest_less}
-use borrow.Author.Rules.{rules}
 use Rattle.list.proofs.runs.run_fields.Given as goal
 
 abbrev pub invariant-loop-rest : goal.invariant-loop-rest

@@ -1,8 +1,5 @@
 -- `marks::rows::first_from` meets its contract. Assumes nothing.
-use mathlib.Core.Path.{◌≡◌, refl, sym, ap, ◌∙◌}
-use Prim.Native.Nat.{◌-◌, ◌≤◌}
-use native.Mathlib.Omega.{arith}
-use borrow.Author.Rules.{rules}
+use Rattle.std.proofs.Common.{◌≡◌, refl, sym, ap, ◌∙◌, ◌-◌, arith}
 use Rattle.marks.specs.Marks.{first_marked}
 use Rattle.marks.proofs.NextLaws.{first_none}
 use Rattle.marks.proofs.Turns.{found, turn_row, turn_byte}
@@ -19,30 +16,26 @@ loop-row-smaller-then-left-eq0 c = omega arith
 
 pub loop-row-preserved-then-left-eq0 : goal.loop-row-preserved-then-left-eq0
 loop-row-preserved-then-left-eq0 c =
-    let l = c in
-    let a = l.args in
+    let a = c.args in
     let h = c.if-row-gt511.false in
-    (omega arith, turn_byte a.marks.now l.loop-row.row h c.if-left-eq0.true ∙ l.loop-row.invariant.1)
+    (omega arith, turn_byte a.marks.now c.loop-row.row h c.if-left-eq0.true ∙ c.loop-row.invariant.1)
 
 pub loop-row-smaller : goal.loop-row-smaller
 loop-row-smaller c = omega arith
 
 pub loop-row-preserved : goal.loop-row-preserved
 loop-row-preserved c =
-    let l = c in
-    let a = l.args in
+    let a = c.args in
     let h = c.if-row-gt511.false in
-    (omega arith, turn_row a.marks.now l.loop-row.row h c.if-left-eq1.false ∙ l.loop-row.invariant.1)
+    (omega arith, turn_row a.marks.now c.loop-row.row h c.if-left-eq1.false ∙ c.loop-row.invariant.1)
 
 pub returns-then-row-gt511 : goal.returns-then-row-gt511
 returns-then-row-gt511 c =
-    let l = c in
-    let a = l.args in
-    let z : 512 - l.loop-row.row ≡ 0 = omega (arith, c.if-row-gt511.true) in
-    sym (ap (first_marked a.marks.now l.loop-row.row) z ∙ first_none a.marks.now l.loop-row.row) ∙ l.loop-row.invariant.1
+    let a = c.args in
+    let z : 512 - c.loop-row.row ≡ 0 = omega (arith, c.if-row-gt511.true) in
+    sym (ap (first_marked a.marks.now c.loop-row.row) z ∙ first_none a.marks.now c.loop-row.row) ∙ c.loop-row.invariant.1
 
 pub returns-then-left-eq1 : goal.returns-then-left-eq1
 returns-then-left-eq1 c =
-    let l = c in
-    let a = l.args in
-    found a.marks.now l.loop-row.row c.if-row-gt511.false c.if-left-eq1.true ∙ l.loop-row.invariant.1
+    let a = c.args in
+    found a.marks.now c.loop-row.row c.if-row-gt511.false c.if-left-eq1.true ∙ c.loop-row.invariant.1

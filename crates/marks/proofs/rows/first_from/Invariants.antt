@@ -1,11 +1,6 @@
 -- `marks::rows::first_from` meets its contract. Assumes nothing.
-use mathlib.Core.Path.{◌≡◌, refl, sym, ap, ◌∙◌}
-use Prim.Native.Nat.{◌-◌, ◌≤◌}
-use native.Mathlib.Omega.{arith}
-use borrow.Author.Rules.{rules}
+use Rattle.std.proofs.Common.{◌≡◌, ◌-◌, ◌≤◌}
 use Rattle.marks.specs.Marks.{first_marked}
-use Rattle.marks.proofs.NextLaws.{first_none}
-use Rattle.marks.proofs.Turns.{found, turn_row, turn_byte}
 use Rattle.marks.proofs.rows.first_from.Given as goal
 
 abbrev pub invariant-loop-row : goal.invariant-loop-row

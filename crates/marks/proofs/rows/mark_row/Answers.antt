@@ -1,11 +1,8 @@
 -- `marks::rows::mark_row` meets its contract. Assumes nothing.
-use mathlib.Core.Path.{ap}
-use Prim.Native.Nat.{ℕ, ◌/◌}
+use Rattle.std.proofs.Common.{ap, ℕ, ◌/◌, get_or, set}
 use lib.Bits.{bit_or}
-use lib.ListN.{get_or, set}
 use Rattle.marks.specs.Marks.{mark}
 use Rattle.marks.proofs.Turns.{shifted, mark_out}
-use borrow.Author.Rules.{rules}
 use Rattle.marks.proofs.rows.mark_row.Goals as goal
 
 pub returns-then-at-marks : goal.returns-then-at-marks

@@ -1,13 +1,8 @@
 -- `marks::rows::mark_writes` meets its contract: one turn of the loop is one field. Assumes nothing.
-use mathlib.Core.Path.{◌≡◌, refl, ◌∙◌}
-use mathlib.Core.Bool.{true}
-use native.Mathlib.Omega.{arith}
-use lib.ListN.{length}
+use Rattle.std.proofs.Common.{◌≡◌, true, length}
 use Rattle.list.specs.Fields.{fields}
 use Rattle.list.specs.Meaning.{readable, cycles_of}
 use Rattle.marks.specs.Marks.{marked_by_all}
-use Rattle.marks.proofs.Turns.{end_marks, first_whole, first_header, first_low, first_fits, rest_less, rest_readable, turn_marks}
-use borrow.Author.Rules.{rules}
 use Rattle.marks.proofs.rows.mark_writes.Given as goal
 
 abbrev pub invariant-loop-rest : goal.invariant-loop-rest

@@ -1,10 +1,6 @@
 -- `marks::rows::put_zeros` meets its contract; what it leaves is said before its bounds. Assumes nothing.
-use mathlib.Core.Path.{◌≡◌, refl, ◌∙◌}
-use Prim.Native.Nat.{◌-◌}
-use native.Mathlib.Omega.{arith}
-use lib.ListN.{length, length-set}
-use borrow.Author.Rules.{rules}
-use Rattle.marks.proofs.Turns.{Zeros, turn_zeros, end_zeros}
+use Rattle.std.proofs.Common.{refl, ◌∙◌, arith, length-set}
+use Rattle.marks.proofs.Turns.{turn_zeros, end_zeros}
 use Rattle.marks.proofs.rows.put_zeros.Goals as goal
 
 pub loop-i-init : goal.loop-i-init

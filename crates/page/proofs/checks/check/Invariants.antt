@@ -1,15 +1,8 @@
 -- `page::checks::check` meets its contract. Assumes nothing.
-use mathlib.Core.Path.{◌≡◌, ap, sym, ◌∙◌}
-use mathlib.Core.Logic.{⊎_elim}
-use Prim.Native.Nat.{ℕ, ◌≤◌, ◌-◌}
-use native.Mathlib.Omega.{arith}
-use lib.ListN.{length}
-use Rattle.list.specs.declared.Bad.{Bad}
+use Rattle.std.proofs.Common.{◌≡◌, ◌≤◌, ◌-◌, length}
 use Rattle.page.specs.declared.Room.TheVariants.{Left}
 use Rattle.page.specs.Rectangles.{items}
 use Rattle.page.specs.Calls.{judged}
-use Rattle.page.proofs.Turns.{rest_less, rest_within, end_check, turn_bad, turn_fits, turn_good}
-use borrow.Author.Rules.{rules}
 use Rattle.page.proofs.checks.check.Given as goal
 
 abbrev pub invariant-loop-rest : goal.invariant-loop-rest

@@ -1,6 +1,5 @@
 -- `page::checks::room_number` meets its contract. Assumes nothing.
 use Rattle.page.specs.Rooms.{room_number}
-use borrow.Author.Rules.{rules}
 use Rattle.page.proofs.checks.room_number.Goals as goal
 
 pub returns-in-Left : goal.returns-in-Left

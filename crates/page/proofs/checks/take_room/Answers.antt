@@ -1,9 +1,8 @@
 -- `page::checks::take_room` meets its contract. Assumes nothing.
-use mathlib.Core.Path.{sym, ap, ◌∙◌}
+use Rattle.std.proofs.Common.{sym, ap, ◌∙◌}
 use Rattle.page.specs.declared.Room.{Room}
 use Rattle.page.specs.Rooms.{takes}
 use Rattle.page.specs.RoomLaws.{takes_fits, takes_over, takes_passed}
-use borrow.Author.Rules.{rules}
 use Rattle.page.proofs.checks.take_room.Goals as goal
 
 pub returns-then-n-left : goal.returns-then-n-left

@@ -1,14 +1,8 @@
 -- `page::lists::put_fills` meets its contract. The invariant: what is still to be put makes the whole. Assumes nothing.
-use mathlib.Core.Path.{◌≡◌, refl, ◌∙◌}
-use Prim.Native.Nat.{◌≤◌, ◌+◌, ◌-◌}
-use native.Mathlib.Omega.{arith}
-use lib.ListN.{length}
-use lib.Seq.{sets}
+use Rattle.std.proofs.Common.{refl, ◌∙◌, ◌≤◌, ◌+◌, arith, length}
 use Rattle.list.proofs.EncodeLaws.{count_within}
-use Rattle.page.specs.Rectangles.{items}
-use Rattle.page.specs.Calls.{fills_of, joined, plans, verdict}
+use Rattle.page.specs.Calls.{fills_of, joined, plans}
 use Rattle.page.proofs.Turns.{rest_less, put_fits, put_accepted, put_at, put_count, put_length, put_list, end_put}
-use borrow.Author.Rules.{rules}
 use Rattle.page.proofs.lists.put_fills.Goals as goal
 
 pub loop-rest-init : goal.loop-rest-init
@@ -26,65 +20,55 @@ slice_bounds-put_fill-start c =
 
 pub put_fill-fill-requires : goal.put_fill-fill-requires
 put_fill-fill-requires c =
-    let i = c in
-    let l = i.loop-rest in
-    let p = i.requires in
-    put_fits _ p.0 p.1 l.rest.now i.loop-rest-test.true l.invariant.1
+    let l = c.loop-rest in
+    let p = c.requires in
+    put_fits _ p.0 p.1 l.rest.now c.loop-rest-test.true l.invariant.1
 
 pub overflow_add-at : goal.overflow_add-at
 overflow_add-at c =
-    let w = c in
-    let i = w in
-    let l = i.loop-rest in
-    let p = i.requires in
-    let a = i.args in
+    let l = c.loop-rest in
+    let p = c.requires in
+    let a = c.args in
     let h : l.at + length (joined (fills_of a.rows l.rest.now)) ≤ length l.list = omega (arith, l.invariant.0, l.invariant.2, p.3) in
-    omega (arith, put_at a.rows p.0 p.1 l.rest.now i.loop-rest-test.true l.invariant.1 l.list w.put_fill-fill.new.list l.at h w.put_fill-fill.result w.put_fill-fill.ensures, h)
+    omega (arith, put_at a.rows p.0 p.1 l.rest.now c.loop-rest-test.true l.invariant.1 l.list c.put_fill-fill.new.list l.at h c.put_fill-fill.result c.put_fill-fill.ensures, h)
 
 pub overflow_add-cycles : goal.overflow_add-cycles
 overflow_add-cycles c =
-    let w = c in
-    let i = w in
-    let l = i.loop-rest in
-    let p = i.requires in
-    let a = i.args in
+    let l = c.loop-rest in
+    let p = c.requires in
+    let a = c.args in
     let h : l.at + length (joined (fills_of a.rows l.rest.now)) ≤ length l.list = omega (arith, l.invariant.0, l.invariant.2, p.3) in
-    omega (arith, put_count a.rows p.0 p.1 l.rest.now i.loop-rest-test.true l.invariant.1 l.list w.put_fill-fill.new.list l.at h w.put_fill-fill.result w.put_fill-fill.ensures l.cycles, l.invariant.3, count_within (plans (fills_of a.rows a.rectangles.now)), p.3)
+    omega (arith, put_count a.rows p.0 p.1 l.rest.now c.loop-rest-test.true l.invariant.1 l.list c.put_fill-fill.new.list l.at h c.put_fill-fill.result c.put_fill-fill.ensures l.cycles, l.invariant.3, count_within (plans (fills_of a.rows a.rectangles.now)), p.3)
 
 pub slice_bounds-rest-count : goal.slice_bounds-rest-count
 slice_bounds-rest-count c =
-    let i = c in
-    let l = i.loop-rest in
-    let p = i.requires in
-    put_fits _ p.0 p.1 l.rest.now i.loop-rest-test.true l.invariant.1
+    let l = c.loop-rest in
+    let p = c.requires in
+    put_fits _ p.0 p.1 l.rest.now c.loop-rest-test.true l.invariant.1
 
 pub slice_bounds-rest-start : goal.slice_bounds-rest-start
 slice_bounds-rest-start c =
-    let i = c in
-    let l = i.loop-rest in
-    let p = i.requires in
-    omega (arith, put_fits _ p.0 p.1 l.rest.now i.loop-rest-test.true l.invariant.1)
+    let l = c.loop-rest in
+    let p = c.requires in
+    omega (arith, put_fits _ p.0 p.1 l.rest.now c.loop-rest-test.true l.invariant.1)
 
 pub loop-rest-smaller : goal.loop-rest-smaller
 loop-rest-smaller c =
-    let i = c in
-    let l = i.loop-rest in
-    let p = i.requires in
-    rest_less l.rest.now (put_fits _ p.0 p.1 l.rest.now i.loop-rest-test.true l.invariant.1)
+    let l = c.loop-rest in
+    let p = c.requires in
+    rest_less l.rest.now (put_fits _ p.0 p.1 l.rest.now c.loop-rest-test.true l.invariant.1)
 
 pub loop-rest-preserved : goal.loop-rest-preserved
 loop-rest-preserved c =
-    let w = c in
-    let i = w in
-    let l = i.loop-rest in
-    let p = i.requires in
-    let a = i.args in
+    let l = c.loop-rest in
+    let p = c.requires in
+    let a = c.args in
     let h : l.at + length (joined (fills_of a.rows l.rest.now)) ≤ length l.list = omega (arith, l.invariant.0, l.invariant.2, p.3) in (
-      put_length a.rows p.0 p.1 l.rest.now i.loop-rest-test.true l.invariant.1 l.list w.put_fill-fill.new.list l.at h w.put_fill-fill.result w.put_fill-fill.ensures ∙ l.invariant.0,
-      put_accepted a.rows p.0 p.1 l.rest.now i.loop-rest-test.true l.invariant.1,
-      put_at a.rows p.0 p.1 l.rest.now i.loop-rest-test.true l.invariant.1 l.list w.put_fill-fill.new.list l.at h w.put_fill-fill.result w.put_fill-fill.ensures ∙ l.invariant.2,
-      put_count a.rows p.0 p.1 l.rest.now i.loop-rest-test.true l.invariant.1 l.list w.put_fill-fill.new.list l.at h w.put_fill-fill.result w.put_fill-fill.ensures l.cycles ∙ l.invariant.3,
-      put_list a.rows p.0 p.1 l.rest.now i.loop-rest-test.true l.invariant.1 l.list w.put_fill-fill.new.list l.at h w.put_fill-fill.result w.put_fill-fill.ensures ∙ l.invariant.4,
+      put_length a.rows p.0 p.1 l.rest.now c.loop-rest-test.true l.invariant.1 l.list c.put_fill-fill.new.list l.at h c.put_fill-fill.result c.put_fill-fill.ensures ∙ l.invariant.0,
+      put_accepted a.rows p.0 p.1 l.rest.now c.loop-rest-test.true l.invariant.1,
+      put_at a.rows p.0 p.1 l.rest.now c.loop-rest-test.true l.invariant.1 l.list c.put_fill-fill.new.list l.at h c.put_fill-fill.result c.put_fill-fill.ensures ∙ l.invariant.2,
+      put_count a.rows p.0 p.1 l.rest.now c.loop-rest-test.true l.invariant.1 l.list c.put_fill-fill.new.list l.at h c.put_fill-fill.result c.put_fill-fill.ensures l.cycles ∙ l.invariant.3,
+      put_list a.rows p.0 p.1 l.rest.now c.loop-rest-test.true l.invariant.1 l.list c.put_fill-fill.new.list l.at h c.put_fill-fill.result c.put_fill-fill.ensures ∙ l.invariant.4,
     )
 
 pub shape_of-list : goal.shape_of-list

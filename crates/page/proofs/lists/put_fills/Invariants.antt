@@ -1,14 +1,8 @@
 -- `page::lists::put_fills` meets its contract. The invariant: what is still to be put makes the whole. Assumes nothing.
-use mathlib.Core.Path.{◌≡◌, refl, ◌∙◌}
-use Prim.Native.Nat.{◌≤◌, ◌+◌, ◌-◌}
-use native.Mathlib.Omega.{arith}
-use lib.ListN.{length}
+use Rattle.std.proofs.Common.{◌≡◌, ◌+◌, length}
 use lib.Seq.{sets}
-use Rattle.list.proofs.EncodeLaws.{count_within}
 use Rattle.page.specs.Rectangles.{items}
 use Rattle.page.specs.Calls.{fills_of, joined, plans, verdict}
-use Rattle.page.proofs.Turns.{rest_less, put_fits, put_accepted, put_at, put_count, put_length, put_list, end_put}
-use borrow.Author.Rules.{rules}
 use Rattle.page.proofs.lists.put_fills.Given as goal
 
 abbrev pub invariant-loop-rest : goal.invariant-loop-rest

@@ -1,6 +1,5 @@
 -- `page::rectangles::whole` meets its contract. Assumes nothing.
 use Rattle.page.specs.Rectangles.{whole}
-use borrow.Author.Rules.{rules}
 use Rattle.page.proofs.rectangles.whole.Goals as goal
 
 pub returns : goal.returns

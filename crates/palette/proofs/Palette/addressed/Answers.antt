@@ -1,5 +1,4 @@
 -- `palette::Palette::addressed` meets its contract. Assumes nothing.
-use Rattle.std.proofs.Common.{rules}
 use Rattle.palette.proofs.Palette.addressed.Goals as goal
 
 pub returns : goal.returns

@@ -1,5 +1,5 @@
 -- `palette::Palette::after_read` meets its contract. Assumes nothing.
-use Rattle.std.proofs.Common.{rules, eq-eqb, ne_eqb}
+use Rattle.std.proofs.Common.{eq-eqb, ne_eqb}
 use Rattle.palette.specs.Access.{after_read}
 use Rattle.palette.proofs.Palette.after_read.Goals as goal
 

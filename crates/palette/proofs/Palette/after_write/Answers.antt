@@ -1,5 +1,5 @@
 -- `palette::Palette::after_write` meets its contract. Assumes nothing.
-use Rattle.std.proofs.Common.{◌≢◌, arith, rules, ne_eqb}
+use Rattle.std.proofs.Common.{◌≢◌, arith, ne_eqb}
 use Rattle.palette.specs.Access.{after_write, table_after_write}
 use Rattle.palette.proofs.Palette.after_write.Goals as goal
 
@@ -13,11 +13,10 @@ returns-in-0 c = let k = c.in-0.is in record {
 pub returns-in-1 : goal.returns-in-1
 unfolding after_write table_after_write
 returns-in-1 c =
-    let w = c in
-    let k = w.in-1.is in
+    let k = c.in-1.is in
     record {
-      state = rw k w.coloured.ensures.state;
-      entry = rw k w.coloured.ensures.entry;
+      state = rw k c.coloured.ensures.state;
+      entry = rw k c.coloured.ensures.entry;
     }
 
 pub returns-in-2 : goal.returns-in-2

@@ -1,5 +1,5 @@
 -- `palette::Palette::byte_read` meets its contract. Assumes nothing.
-use Rattle.std.proofs.Common.{rules, ne_eqb}
+use Rattle.std.proofs.Common.{ne_eqb}
 use Rattle.palette.specs.Access.{byte_read}
 use Rattle.std.proofs.Common.{◌≢◌, arith}
 use Rattle.palette.proofs.Palette.byte_read.Goals as goal

@@ -1,5 +1,5 @@
 -- `palette::Palette::entered` meets its contract. Assumes nothing.
-use Rattle.std.proofs.Common.{refl, arith, length-set, rules}
+use Rattle.std.proofs.Common.{refl, arith, length-set}
 use Rattle.palette.proofs.Palette.entered.Goals as goal
 
 pub bounds-table-at-2 : goal.bounds-table-at-2

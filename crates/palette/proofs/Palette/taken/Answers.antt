@@ -1,5 +1,4 @@
 -- `palette::Palette::taken` meets its contract. Assumes nothing.
-use Rattle.std.proofs.Common.{rules}
 use Rattle.palette.proofs.Palette.taken.Goals as goal
 
 pub returns : goal.returns

@@ -1,5 +1,5 @@
 -- `palette::Palette::with_register` meets its contract. Assumes nothing.
-use Rattle.std.proofs.Common.{ℕ, eqb, ap, rules, eq-eqb, ne_eqb}
+use Rattle.std.proofs.Common.{ℕ, eqb, ap, eq-eqb, ne_eqb}
 use Rattle.std.proofs.Common.{◌≢◌, arith}
 use Rattle.palette.proofs.Palette.with_register.Goals as goal
 

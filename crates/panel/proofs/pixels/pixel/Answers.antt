@@ -1,5 +1,5 @@
 -- `panel::pixels::pixel` meets its contract. Assumes nothing.
-use native.Mathlib.Omega.{arith}
+use Rattle.std.proofs.Common.{arith}
 use Rattle.words.specs.WordLaws.{high_is}
 use Rattle.panel.proofs.PixelLaws.{the_mark, the_result, reverse_is}
 use Rattle.panel.proofs.pixels.pixel.Goals as goal

@@ -1,9 +1,6 @@
 -- `panel::pixels::place` meets its contract. Assumes nothing.
-use mathlib.Core.Path.{ap}
-use Prim.Native.Nat.{ℕ, ◌*◌}
-use native.Mathlib.Omega.{arith}
+use Rattle.std.proofs.Common.{ap, ℕ, ◌*◌, arith}
 use lib.Bits.{bit_and, and_le_l}
-use borrow.Author.Rules.{rules}
 use Rattle.panel.proofs.pixels.place.Goals as goal
 
 pub returns : goal.returns

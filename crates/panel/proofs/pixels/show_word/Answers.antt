@@ -1,13 +1,9 @@
 -- `panel::pixels::show_word` meets its contract. Assumes nothing.
-use native.Mathlib.Nat.{mod-lt}
-use native.Mathlib.Omega.{arith}
-use Prim.Native.Nat.{ℕ, ◌+◌, ◌%◌, ◌<◌}
-use lib.ListN.{length-set, get_or}
+use Rattle.std.proofs.Common.{mod-lt, arith, ℕ, ◌+◌, ◌%◌, ◌<◌, length-set, get_or}
 use Rattle.panel.specs.Panel.{part_at, panel_of}
 use Rattle.panel.proofs.PartLaws.{part_byte}
 use Rattle.panel.proofs.Stores.{three_stores}
 use Rattle.panel.proofs.Two.{two_back}
-use borrow.Author.Rules.{rules}
 use Rattle.panel.proofs.pixels.show_word.Goals as goal
 
 pub overflow_cast-out-2 : goal.overflow_cast-out-2
@@ -21,11 +17,9 @@ bounds-out-i-3 c = simp (length-set, length-set) (omega arith)
 
 pub returns : goal.returns
 returns c =
-    let d = c in
-    let g = d in
-    let a = g.args in
-    let at = g.place-at.result in
+    let a = c.args in
+    let at = c.place-at.result in
     let small : (k : ℕ) → part_at a.width (get_or a.table.now k 0 % 64) < 256 = λ k. part_byte a.width (get_or a.table.now k 0 % 64) (mod-lt (get_or a.table.now k 0) (omega arith)) in
-    let rg = two_back _ _ _ d.two_parts-red_green.ensures (small at) in
+    let rg = two_back _ _ _ c.two_parts-red_green.ensures (small at) in
     let b = two_back _ _ _ c.two_parts-blue.ensures (small (at + 2)) in
-    three_stores (panel_of (part_at a.width) a.mask a.table.now) a.out.now a.word a.i at _ _ _ g.place-at.ensures.0 rg.0 rg.1 b.0
+    three_stores (panel_of (part_at a.width) a.mask a.table.now) a.out.now a.word a.i at _ _ _ c.place-at.ensures.0 rg.0 rg.1 b.0

@@ -1,7 +1,6 @@
 -- `panel::pixels::two_kept` meets its contract. Assumes nothing.
-use native.Mathlib.Omega.{arith}
+use Rattle.std.proofs.Common.{arith}
 use Rattle.panel.proofs.Two.{and_two}
-use borrow.Author.Rules.{rules}
 use Rattle.panel.proofs.pixels.two_kept.Goals as goal
 
 pub returns : goal.returns

@@ -1,9 +1,6 @@
 -- `panel::stretches::clear` meets its contract: one zero more at each turn. Assumes nothing.
-use borrow.Author.Rules.{rules}
-use Prim.Native.Nat.{ℕ, ◌≤◌, ◌-◌}
+use Rattle.std.proofs.Common.{ℕ, ◌≡◌, refl, ap, ◌∙◌, arith}
 use Rattle.panel.proofs.PanelLaws.{over_zero, zeros_size}
-use mathlib.Core.Path.{◌≡◌, refl, ap, ◌∙◌}
-use native.Mathlib.Omega.{arith}
 use Rattle.panel.specs.Panel.{zeros}
 use Rattle.numbers.specs.Buffer.{over}
 use Rattle.panel.proofs.stretches.clear.Goals as goal
@@ -12,18 +9,16 @@ pub loop-i-init : goal.loop-i-init
 loop-i-init c = (omega arith, refl)
 
 pub bounds-out-i : goal.bounds-out-i
-bounds-out-i c = let l = c in omega (arith, zeros_size l.args.out.now l.loop-i.out l.loop-i.i (omega (arith, l.loop-i.invariant.0, l.requires)) l.loop-i.invariant.1, l.requires, c.loop-i-test.true)
+bounds-out-i c = omega (arith, zeros_size c.args.out.now c.loop-i.out c.loop-i.i (omega (arith, c.loop-i.invariant.0, c.requires)) c.loop-i.invariant.1, c.requires, c.loop-i-test.true)
 
 pub loop-i-preserved : goal.loop-i-preserved
 loop-i-preserved c =
-    let l = c in
-    (omega (arith, c.loop-i-test.true), over_zero l.args.out.now l.loop-i.out l.loop-i.i (omega (arith, l.requires, c.loop-i-test.true)) l.loop-i.invariant.1)
+    (omega (arith, c.loop-i-test.true), over_zero c.args.out.now c.loop-i.out c.loop-i.i (omega (arith, c.requires, c.loop-i-test.true)) c.loop-i.invariant.1)
 
 pub shape_of-out : goal.shape_of-out
-shape_of-out c = let l = c in zeros_size l.args.out.now l.loop-i.out l.loop-i.i (omega (arith, l.loop-i.invariant.0, l.requires)) l.loop-i.invariant.1
+shape_of-out c = zeros_size c.args.out.now c.loop-i.out c.loop-i.i (omega (arith, c.loop-i.invariant.0, c.requires)) c.loop-i.invariant.1
 
 pub returns : goal.returns
 returns c =
-    let l = c in
-    let e : l.loop-i.i ≡ l.args.n = omega (arith, l.loop-i.invariant.0, c.loop-i-test.false) in
-    l.loop-i.invariant.1 ∙ ap (λ (x : ℕ). over (zeros x) l.args.out.now) e
+    let e : c.loop-i.i ≡ c.args.n = omega (arith, c.loop-i.invariant.0, c.loop-i-test.false) in
+    c.loop-i.invariant.1 ∙ ap (λ (x : ℕ). over (zeros x) c.args.out.now) e

@@ -1,9 +1,5 @@
 -- `panel::stretches::clear` meets its contract: one zero more at each turn. Assumes nothing.
-use borrow.Author.Rules.{rules}
-use Prim.Native.Nat.{ℕ, ◌≤◌, ◌-◌}
-use Rattle.panel.proofs.PanelLaws.{over_zero, zeros_size}
-use mathlib.Core.Path.{◌≡◌, refl, ap, ◌∙◌}
-use native.Mathlib.Omega.{arith}
+use Rattle.std.proofs.Common.{◌≤◌, ◌-◌, ◌≡◌}
 use Rattle.panel.specs.Panel.{zeros}
 use Rattle.numbers.specs.Buffer.{over}
 use Rattle.panel.proofs.stretches.clear.Given as goal

@@ -1,6 +1,5 @@
 -- `panel::stretches::run_bytes` meets its contract. Assumes nothing.
-use borrow.Author.Tests.{eq-eqb, ne_eqb}
-use borrow.Author.Rules.{rules}
+use Rattle.std.proofs.Common.{eq-eqb, ne_eqb}
 use Rattle.panel.proofs.stretches.run_bytes.Goals as goal
 
 pub returns-then-blank-eq0 : goal.returns-then-blank-eq0

@@ -1,12 +1,7 @@
 -- `panel::stretches::show` meets its contract: one stretch more at each turn. Assumes nothing.
-use Rattle.panel.proofs.Stretch.{shown_size}
-use mathlib.Core.Path.{◌≡◌, ap, ◌∙◌}
-use Prim.Native.Nat.{ℕ, ◌≤◌, ◌-◌}
-use native.Mathlib.Omega.{arith}
+use Rattle.std.proofs.Common.{◌≡◌, ◌≤◌, ◌-◌}
 use Rattle.panel.specs.Panel.{part_at, panel_of, shown}
 use Rattle.numbers.specs.Buffer.{over}
-use Rattle.panel.proofs.PanelLaws.{over_none}
-use Rattle.panel.proofs.Stretch.{one_turn}
 use Rattle.panel.proofs.stretches.show.Given as goal
 
 abbrev pub invariant-loop-done : goal.invariant-loop-done

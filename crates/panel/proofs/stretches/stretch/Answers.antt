@@ -1,9 +1,5 @@
 -- `panel::stretches::stretch` meets its contract: the clocks stay in one partition. Assumes nothing.
-use mathlib.Core.Path.{◌≡◌, sym, ap, ◌∙◌}
-use mathlib.Core.List.{◌++◌}
-use Prim.Native.Nat.{ℕ, ◌+◌, ◌-◌, ◌*◌, ◌<◌}
-use native.Mathlib.Omega.{arith}
-use lib.ListN.{take, drop}
+use Rattle.std.proofs.Common.{◌≡◌, sym, ap, ◌∙◌, ◌++◌, ℕ, ◌+◌, ◌-◌, ◌*◌, ◌<◌, arith, take, drop}
 use Rattle.vram.specs.declared.Vram.{Vram}
 use Rattle.vram.specs.declared.Moved.{Moved}
 use Rattle.vram.specs.Serial.{through, clocks as moved, clocked_words}
@@ -13,7 +9,6 @@ use Rattle.vram.proofs.CallLaws.{clocks_moves, clocks_leads, clocks_fewer}
 use Rattle.panel.specs.Panel.{part_at, panel_of, bytes_of}
 use Rattle.numbers.specs.Buffer.{over}
 use Rattle.panel.proofs.Stretch.{one_stretch}
-use borrow.Author.Rules.{rules}
 use Rattle.panel.proofs.stretches.stretch.Goals as goal
 
 -- the state there, and how many clocks lead through the end of its partition, which lies within the register
@@ -26,30 +21,22 @@ there s done clocks r f h z =
 
 pub slice_bounds-show_words-end : goal.slice_bounds-show_words-end
 slice_bounds-show_words-end c =
-    let m = c in
-    let d = m in
-    let s = d in
-    let a = s.args in
-    let t = there a.state a.done a.clocks d.clocks-here.result d.clocks-here.ensures s.requires.4 s.requires.0 in
-    let q = through_within d.clocks-here.result.state (omega arith) in
-    omega (arith, m.least-count.ensures, t.1, q.1, s.requires.1)
+    let a = c.args in
+    let t = there a.state a.done a.clocks c.clocks-here.result c.clocks-here.ensures c.requires.4 c.requires.0 in
+    let q = through_within c.clocks-here.result.state (omega arith) in
+    omega (arith, c.least-count.ensures, t.1, q.1, c.requires.1)
 
 pub returns : goal.returns
 returns c =
-    let w = c in
-    let k = w in
-    let m = k in
-    let d = m in
-    let s = d in
-    let a = s.args in
-    let here = d.clocks-here.result.state in
-    let t = there a.state a.done a.clocks d.clocks-here.result d.clocks-here.ensures s.requires.4 s.requires.0 in
+    let a = c.args in
+    let here = c.clocks-here.result.state in
+    let t = there a.state a.done a.clocks c.clocks-here.result c.clocks-here.ensures c.requires.4 c.requires.0 in
     let p : here.pointer < 256 = omega arith in
     let q = through_within here p in (
-      omega (arith, m.least-count.ensures, t.1, q.0),
-      omega (arith, m.least-count.ensures),
-      one_stretch (panel_of (part_at a.width) a.mask a.table.now) a.serial.now a.out.now _ here (3 * a.done) m.least-count.result p
-          (omega (arith, m.least-count.ensures, t.1)) (omega (arith, m.least-count.ensures, t.1, q.1, s.requires.1)) (a.done + m.least-count.result - a.done) (omega arith)
-          (omega (arith, s.requires.3)) w.show_words.ensures
-          ∙ ap (λ (x : Vram). take (3 * a.done) a.out.now ++ over (bytes_of (panel_of (part_at a.width) a.mask a.table.now) (clocked_words (a.done + m.least-count.result - a.done) x a.serial.now)) (drop (3 * a.done) a.out.now)) t.0,
+      omega (arith, c.least-count.ensures, t.1, q.0),
+      omega (arith, c.least-count.ensures),
+      one_stretch (panel_of (part_at a.width) a.mask a.table.now) a.serial.now a.out.now _ here (3 * a.done) c.least-count.result p
+          (omega (arith, c.least-count.ensures, t.1)) (omega (arith, c.least-count.ensures, t.1, q.1, c.requires.1)) (a.done + c.least-count.result - a.done) (omega arith)
+          (omega (arith, c.requires.3)) c.show_words.ensures
+          ∙ ap (λ (x : Vram). take (3 * a.done) a.out.now ++ over (bytes_of (panel_of (part_at a.width) a.mask a.table.now) (clocked_words (a.done + c.least-count.result - a.done) x a.serial.now)) (drop (3 * a.done) a.out.now)) t.0,
     )

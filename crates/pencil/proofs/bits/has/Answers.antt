@@ -1,7 +1,5 @@
 -- `pencil::bits::has` meets its contract. Assumes nothing.
-use mathlib.Core.Path.{sym}
-use native.Mathlib.Omega.{arith}
-use borrow.Author.Rules.{rules}
+use Rattle.std.proofs.Common.{sym, arith}
 use Rattle.words.specs.BitLaws.{bit_is, bit_above}
 use Rattle.pencil.proofs.bits.has.Goals as goal
 

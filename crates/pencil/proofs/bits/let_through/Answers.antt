@@ -1,7 +1,5 @@
 -- `pencil::bits::let_through` meets its contract. Assumes nothing.
-use mathlib.Core.Path.{sym, ◌∙◌}
-use Prim.Native.Nat.{◌%◌}
-use borrow.Author.Rules.{rules}
+use Rattle.std.proofs.Common.{sym, ◌∙◌, ◌%◌}
 use Rattle.words.specs.WordLaws.{lets_is}
 use Rattle.pencil.proofs.bits.let_through.Goals as goal
 

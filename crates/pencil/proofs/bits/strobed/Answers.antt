@@ -1,6 +1,5 @@
 -- `pencil::bits::strobed` meets its contract. Assumes nothing.
-use mathlib.Core.Path.{sym, ◌∙◌}
-use borrow.Author.Rules.{rules}
+use Rattle.std.proofs.Common.{sym, ◌∙◌}
 use Rattle.words.specs.WordLaws.{covers_is}
 use Rattle.pencil.proofs.bits.strobed.Goals as goal
 

@@ -1,6 +1,5 @@
 -- `pencil::bits::with_bit` meets its contract. Assumes nothing.
-use mathlib.Core.Path.{sym, ap, ◌∙◌}
-use borrow.Author.Rules.{rules}
+use Rattle.std.proofs.Common.{sym, ap, ◌∙◌}
 use Rattle.pencil.specs.Bits.{with_bit}
 use Rattle.pencil.specs.CodeLaws.{set_law, clear_law}
 use Rattle.pencil.proofs.bits.with_bit.Goals as goal

@@ -1,9 +1,6 @@
 -- `pencil::block::bits_left` meets its contract: one turn of the loop is one bit. Assumes nothing.
-use mathlib.Core.Path.{◌≡◌, sym, ap, ◌∙◌}
-use Prim.Native.Nat.{◌-◌, ◌%◌, ◌≤◌}
-use native.Mathlib.Omega.{arith}
-use borrow.Author.Rules.{rules}
-use Rattle.pencil.specs.Bits.{bit_by_bit, stays, bits_left}
+use Rattle.std.proofs.Common.{◌≡◌, sym, ap, ◌∙◌, arith}
+use Rattle.pencil.specs.Bits.{bit_by_bit, bits_left}
 use Rattle.pencil.specs.BitLaws.{bits_start, bits_turn}
 use Rattle.pencil.proofs.block.bits_left.Goals as goal
 

@@ -1,11 +1,7 @@
 -- `pencil::block::write_block` meets its contract: one turn of the loop is one column. Assumes nothing.
-use mathlib.Core.Path.{◌≡◌, refl, ap, ◌∙◌}
-use Prim.Native.Nat.{◌-◌, ◌≤◌}
-use native.Mathlib.Omega.{arith}
-use lib.ListN.{length}
+use Rattle.std.proofs.Common.{◌≡◌, refl, ap, ◌∙◌, arith}
 use Rattle.pencil.specs.Memory.{block_written}
 use Rattle.pencil.proofs.Turns.{block_start, block_turn}
-use borrow.Author.Rules.{rules}
 use Rattle.pencil.proofs.block.write_block.Goals as goal
 
 pub loop-j-init : goal.loop-j-init
@@ -13,13 +9,10 @@ loop-j-init c = (omega arith, refl, block_start _ _ _ _ _ _)
 
 pub loop-j-preserved : goal.loop-j-preserved
 loop-j-preserved c =
-    let w = c in
-    let b = w in
-    let t = b in
-    let l = t.loop-j in (
+    let l = c.loop-j in (
       omega arith,
-      w.write_word.auto.memory ∙ l.invariant.1,
-      block_turn _ _ _ _ _ _ l.memory l.j b.bits_left-left.result _ (omega (arith, t.loop-j-test.true)) l.invariant.2 b.bits_left-left.ensures w.write_word.ensures,
+      c.write_word.auto.memory ∙ l.invariant.1,
+      block_turn _ _ _ _ _ _ l.memory l.j c.bits_left-left.result _ (omega (arith, c.loop-j-test.true)) l.invariant.2 c.bits_left-left.ensures c.write_word.ensures,
     )
 
 pub shape_of-memory : goal.shape_of-memory

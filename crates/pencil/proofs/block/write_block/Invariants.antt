@@ -1,11 +1,6 @@
 -- `pencil::block::write_block` meets its contract: one turn of the loop is one column. Assumes nothing.
-use mathlib.Core.Path.{◌≡◌, refl, ap, ◌∙◌}
-use Prim.Native.Nat.{◌-◌, ◌≤◌}
-use native.Mathlib.Omega.{arith}
-use lib.ListN.{length}
+use Rattle.std.proofs.Common.{◌≡◌, ◌-◌, ◌≤◌, length}
 use Rattle.pencil.specs.Memory.{block_written}
-use Rattle.pencil.proofs.Turns.{block_start, block_turn}
-use borrow.Author.Rules.{rules}
 use Rattle.pencil.proofs.block.write_block.Given as goal
 
 abbrev pub invariant-loop-j : goal.invariant-loop-j

@@ -2,7 +2,6 @@
 use Rattle.vram.specs.Board.{board}
 use Rattle.list.proofs.OutLaws.{refused_out, done_out}
 use Rattle.pencil.specs.Pencil.{pencil}
-use borrow.Author.Rules.{rules}
 use Rattle.pencil.proofs.runs.finish.Goals as goal
 
 pub returns-then-bad-ne-DONE : goal.returns-then-bad-ne-DONE
@@ -12,7 +11,5 @@ returns-then-bad-ne-DONE c =
 
 pub returns : goal.returns
 returns c =
-    let r = c in
-    let e = r in
-    let a = e.args in
-    done_out pencil a.list.now (board a.state a.memory.now a.serial.now) a.bad e.if-bad-ne-DONE.false _ r.run_fields-after.ensures
+    let a = c.args in
+    done_out pencil a.list.now (board a.state a.memory.now a.serial.now) a.bad c.if-bad-ne-DONE.false _ c.run_fields-after.ensures

@@ -1,12 +1,6 @@
 -- `pencil::runs::run_fields` meets its contract: one turn of the loop is one cycle run. Assumes nothing.
-use mathlib.Core.Path.{◌≡◌, refl, ◌∙◌}
-use lib.ListN.{length}
-use Rattle.vram.specs.Board.{board}
-use Rattle.vram.specs.Step.{step_by, run_by}
-use Rattle.list.specs.Meaning.{cycles_of}
-use Rattle.pencil.specs.Pencil.{pencil}
+use Rattle.std.proofs.Common.{refl, ◌∙◌}
 use Rattle.pencil.proofs.Turns.{over_waits, over_wrong, field_fits, rest_less, turn_run}
-use borrow.Author.Rules.{rules}
 use Rattle.pencil.proofs.runs.run_fields.Goals as goal
 
 pub loop-cycle-init : goal.loop-cycle-init
@@ -14,31 +8,22 @@ loop-cycle-init c = (refl, refl, refl)
 
 pub slice_bounds-rest-count : goal.slice_bounds-rest-count
 slice_bounds-rest-count c =
-    let h = c in
-    let o = h in
-    (field_fits o.loop-cycle.rest.now o.head_of-head.result o.head_of-head.ensures c.in-Whole.cycle c.in-Whole.size h.in-Whole.is).1
+    (field_fits c.loop-cycle.rest.now c.head_of-head.result c.head_of-head.ensures c.in-Whole.cycle c.in-Whole.size c.in-Whole.is).1
 
 pub slice_bounds-rest-start : goal.slice_bounds-rest-start
 slice_bounds-rest-start c =
-    let h = c in
-    let o = h in
-    (field_fits o.loop-cycle.rest.now o.head_of-head.result o.head_of-head.ensures c.in-Whole.cycle c.in-Whole.size h.in-Whole.is).1
+    (field_fits c.loop-cycle.rest.now c.head_of-head.result c.head_of-head.ensures c.in-Whole.cycle c.in-Whole.size c.in-Whole.is).1
 
 pub loop-cycle-smaller : goal.loop-cycle-smaller
 loop-cycle-smaller c =
-    let h = c in
-    let o = h in
-    rest_less o.loop-cycle.rest.now o.head_of-head.result o.head_of-head.ensures c.in-Whole.cycle c.in-Whole.size h.in-Whole.is
+    rest_less c.loop-cycle.rest.now c.head_of-head.result c.head_of-head.ensures c.in-Whole.cycle c.in-Whole.size c.in-Whole.is
 
 pub loop-cycle-preserved : goal.loop-cycle-preserved
 loop-cycle-preserved c =
-    let k = c in
-    let h = k in
-    let o = h in
-    let l = o.loop-cycle in (
-      k.step-current.auto.memory ∙ l.invariant.0,
-      k.step-current.auto.serial ∙ l.invariant.1,
-      turn_run l.rest.now o.head_of-head.result o.head_of-head.ensures c.in-Whole.cycle c.in-Whole.size h.in-Whole.is _ _ k.step-current.ensures
+    let l = c.loop-cycle in (
+      c.step-current.auto.memory ∙ l.invariant.0,
+      c.step-current.auto.serial ∙ l.invariant.1,
+      turn_run l.rest.now c.head_of-head.result c.head_of-head.ensures c.in-Whole.cycle c.in-Whole.size c.in-Whole.is _ _ c.step-current.ensures
           ∙ l.invariant.2,
     )
 
@@ -50,9 +35,8 @@ shape_of-serial-in-Waits c = c.loop-cycle.invariant.1
 
 pub returns-in-Waits : goal.returns-in-Waits
 returns-in-Waits c =
-    let o = c in
-    let l = o.loop-cycle in
-    over_waits l.rest.now o.head_of-head.result o.head_of-head.ensures c.in-Waits.is _ ∙ l.invariant.2
+    let l = c.loop-cycle in
+    over_waits l.rest.now c.head_of-head.result c.head_of-head.ensures c.in-Waits.is _ ∙ l.invariant.2
 
 pub shape_of-memory-in-Wrong : goal.shape_of-memory-in-Wrong
 shape_of-memory-in-Wrong c = c.loop-cycle.invariant.0
@@ -62,6 +46,5 @@ shape_of-serial-in-Wrong c = c.loop-cycle.invariant.1
 
 pub returns-in-Wrong : goal.returns-in-Wrong
 returns-in-Wrong c =
-    let o = c in
-    let l = o.loop-cycle in
-    over_wrong l.rest.now o.head_of-head.result o.head_of-head.ensures c.in-Wrong.is _ ∙ l.invariant.2
+    let l = c.loop-cycle in
+    over_wrong l.rest.now c.head_of-head.result c.head_of-head.ensures c.in-Wrong.is _ ∙ l.invariant.2

@@ -1,12 +1,9 @@
 -- `pencil::runs::run_fields` meets its contract: one turn of the loop is one cycle run. Assumes nothing.
-use mathlib.Core.Path.{◌≡◌, refl, ◌∙◌}
-use lib.ListN.{length}
+use Rattle.std.proofs.Common.{◌≡◌, length}
 use Rattle.vram.specs.Board.{board}
 use Rattle.vram.specs.Step.{step_by, run_by}
 use Rattle.list.specs.Meaning.{cycles_of}
 use Rattle.pencil.specs.Pencil.{pencil}
-use Rattle.pencil.proofs.Turns.{over_waits, over_wrong, field_fits, rest_less, turn_run}
-use borrow.Author.Rules.{rules}
 use Rattle.pencil.proofs.runs.run_fields.Given as goal
 
 abbrev pub invariant-loop-cycle : goal.invariant-loop-cycle

@@ -1,5 +1,5 @@
 -- `pencil::word::in_force` meets its contract. Assumes nothing.
-use borrow.Author.Tests.{eq-eqb, ne_eqb}
+use Rattle.std.proofs.Common.{eq-eqb, ne_eqb}
 use Rattle.pencil.proofs.word.in_force.Goals as goal
 
 pub returns-then-masking-eq0 : goal.returns-then-masking-eq0

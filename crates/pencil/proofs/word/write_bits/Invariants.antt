@@ -1,10 +1,6 @@
 -- `pencil::word::write_bits` meets its contract: one turn of the loop is one bit. Assumes nothing.
-use mathlib.Core.Path.{◌≡◌, sym, ap, ◌∙◌}
-use Prim.Native.Nat.{◌-◌, ◌≤◌}
-use native.Mathlib.Omega.{arith}
-use borrow.Author.Rules.{rules}
-use Rattle.pencil.specs.Bits.{bit_by_bit, takes, written}
-use Rattle.pencil.specs.BitLaws.{bits_start, bits_turn}
+use Rattle.std.proofs.Common.{◌≡◌, ◌-◌, ◌≤◌}
+use Rattle.pencil.specs.Bits.{bit_by_bit, takes}
 use Rattle.pencil.proofs.word.write_bits.Given as goal
 
 abbrev pub invariant-loop-b : goal.invariant-loop-b

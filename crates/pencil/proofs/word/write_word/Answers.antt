@@ -1,8 +1,6 @@
 -- `pencil::word::write_word` meets its contract. Assumes nothing.
-use mathlib.Core.Path.{ap}
-use lib.ListN.{set}
+use Rattle.std.proofs.Common.{ap, set}
 use Rattle.pencil.specs.Memory.{word_written}
-use borrow.Author.Rules.{rules}
 use Rattle.pencil.proofs.word.write_word.Goals as goal
 
 pub returns : goal.returns

@@ -1,9 +1,7 @@
 -- `pieces::bytes::come` meets its contract. Assumes nothing.
-use mathlib.Core.Path.{sym, ◌∙◌}
-use native.Mathlib.Omega.{arith}
+use Rattle.std.proofs.Common.{sym, ◌∙◌, arith, rules}
 use Rattle.pieces.specs.Line.{limit}
 use Rattle.pieces.proofs.ByteLaws.{come_holds, come_moves}
-use borrow.Author.Rules.{rules}
 use Rattle.pieces.proofs.bytes.come.Goals as goal
 
 pub meet_held-f-requires : goal.meet_held-f-requires

@@ -1,8 +1,7 @@
 -- `pieces::bytes::feed` meets its contract. Assumes nothing.
-use native.Mathlib.Omega.{arith}
+use Rattle.std.proofs.Common.{arith, rules}
 use Rattle.pieces.specs.Line.{limit}
 use Rattle.pieces.proofs.ByteLaws.{fed_refused, fed_over, fed_few, fed_held, fed_come}
-use borrow.Author.Rules.{rules}
 use Rattle.pieces.proofs.bytes.feed.Goals as goal
 
 pub returns-then-p-ne-DONE : goal.returns-then-p-ne-DONE

@@ -1,7 +1,5 @@
 -- `pieces::bytes::meet_held` meets its contract. Assumes nothing.
-use native.Mathlib.Omega.{arith}
-use lib.ListN.{length-take}
-use borrow.Author.Rules.{rules}
+use Rattle.std.proofs.Common.{arith, length-take, rules}
 use Rattle.pieces.proofs.bytes.meet_held.Goals as goal
 
 pub slice_bounds-meet-end : goal.slice_bounds-meet-end

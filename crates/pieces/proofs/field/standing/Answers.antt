@@ -1,5 +1,5 @@
 -- `pieces::field::standing` meets its contract. Assumes nothing.
-use borrow.Author.Tests.{eq-eqb, ne_eqb}
+use Rattle.std.proofs.Common.{eq-eqb, ne_eqb}
 use Rattle.pieces.specs.Pieces.{pad}
 use Rattle.pieces.proofs.field.standing.Goals as goal
 

@@ -1,7 +1,6 @@
 -- `pieces::last::at_last` meets its contract. Assumes nothing.
-use mathlib.Core.Path.{sym, ◌∙◌}
+use Rattle.std.proofs.Common.{sym, ◌∙◌, rules}
 use Rattle.pieces.proofs.LineLaws.{last_kept, last_cut, last_left}
-use borrow.Author.Rules.{rules}
 use Rattle.pieces.proofs.last.at_last.Goals as goal
 
 pub returns-then-p-ne-DONE : goal.returns-then-p-ne-DONE

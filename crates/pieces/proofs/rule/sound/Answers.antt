@@ -1,8 +1,7 @@
 -- `pieces::rule::sound` meets its contract. Assumes nothing.
-use mathlib.Core.Path.{sym, ◌∙◌}
+use Rattle.std.proofs.Common.{sym, ◌∙◌, rules}
 use borrow.Author.Tests.{not-true, not-false}
 use Rattle.pieces.specs.PackLaws.{sound_spare, sound_going, sound_stopped}
-use borrow.Author.Rules.{rules}
 use Rattle.pieces.proofs.rule.sound.Goals as goal
 
 pub returns-then-not-zeros_from : goal.returns-then-not-zeros_from

@@ -1,7 +1,6 @@
 -- `pieces::whole::advance` meets its contract. Assumes nothing.
-use native.Mathlib.Omega.{arith}
+use Rattle.std.proofs.Common.{arith, rules}
 use Rattle.pieces.proofs.AlongLaws.{along_all, along_byte}
-use borrow.Author.Rules.{rules}
 use Rattle.pieces.proofs.whole.advance.Goals as goal
 
 pub at_once-f-requires : goal.at_once-f-requires

@@ -1,6 +1,6 @@
 -- `pieces::whole::at_once` meets its contract. Assumes nothing.
+use Rattle.std.proofs.Common.{rules}
 use Rattle.pieces.proofs.AlongLaws.{ready_possible, ready_along, along_none}
-use borrow.Author.Rules.{rules}
 use Rattle.pieces.proofs.whole.at_once.Goals as goal
 
 pub whole_fields-requires : goal.whole_fields-requires

@@ -1,10 +1,5 @@
 -- `pieces::whole::whole_fields` meets its contract: one turn of the loop is one field. Assumes nothing.
-use mathlib.Core.Path.{◌≡◌, refl, sym, ap, ◌∙◌}
-use mathlib.Core.Bool.{true}
-use mathlib.Core.List.{[]}
-use native.Mathlib.Omega.{arith}
-use Prim.Native.Nat.{◌-◌, ◌≤◌}
-use lib.ListN.{length, drop}
+use Rattle.std.proofs.Common.{◌≡◌, refl, sym, ap, ◌∙◌, true, [], arith, ◌-◌, ◌≤◌, length, drop, rules}
 use Rattle.numbers.specs.BufferLaws.{tail_part}
 use Rattle.vram.specs.declared.Vram.{Vram}
 use Rattle.vram.specs.Board.{board}
@@ -12,7 +7,6 @@ use Rattle.vram.specs.Step.{given_of}
 use Rattle.pieces.specs.Line.{line, port, limit, piece}
 use Rattle.pieces.specs.Pieces.{possible}
 use Rattle.pieces.proofs.AlongLaws.{come_along, turn_inside, stay_possible, stay_same, turn_possible, turn_same, turn_some, turn_again}
-use borrow.Author.Rules.{rules}
 use Rattle.pieces.proofs.whole.whole_fields.Given as goal
 
 abbrev pub invariant-loop-at : goal.invariant-loop-at

@@ -1,7 +1,5 @@
 -- `pieces_c::line::both_lawful` meets its contract. Assumes nothing.
-use mathlib.Core.Path.{ap₂}
-use mathlib.Core.Bool.{◌&&◌}
-use borrow.Author.Rules.{rules}
+use Rattle.std.proofs.Common.{ap₂, ◌&&◌, rules}
 use Rattle.pieces_c.proofs.line.both_lawful.Goals as goal
 
 pub returns : goal.returns

@@ -1,5 +1,5 @@
 -- `pieces_c::line::excluded` meets its contract. Assumes nothing.
-use mathlib.Core.Path.{refl}
+use Rattle.std.proofs.Common.{refl}
 use Rattle.pieces_c.proofs.line.excluded.Goals as goal
 
 pub returns : goal.returns

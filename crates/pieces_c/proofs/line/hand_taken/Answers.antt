@@ -1,5 +1,5 @@
 -- `pieces_c::line::hand_taken` meets its contract. Assumes nothing.
-use borrow.Author.Rules.{rules}
+use Rattle.std.proofs.Common.{rules}
 use Rattle.pieces_c.proofs.line.hand_taken.Goals as goal
 
 pub returns : goal.returns

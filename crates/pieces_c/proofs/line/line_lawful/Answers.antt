@@ -1,5 +1,5 @@
 -- `pieces_c::line::line_lawful` meets its contract. Assumes nothing.
-use mathlib.Core.Path.{refl}
+use Rattle.std.proofs.Common.{refl}
 use Rattle.pieces_c.specs.Line.{line_lawful}
 use Rattle.pieces_c.proofs.line.line_lawful.Goals as goal
 

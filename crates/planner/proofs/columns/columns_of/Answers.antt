@@ -1,6 +1,5 @@
 -- `planner::columns::columns_of` meets its contract. Assumes nothing.
-use borrow.Author.Rules.{rules}
-use native.Mathlib.Omega.{arith}
+use Rattle.std.proofs.Common.{arith}
 use Rattle.planner.specs.ColumnLaws.{columns_is}
 use Rattle.planner.proofs.columns.columns_of.Goals as goal
 
@@ -27,8 +26,7 @@ all_quads-requires c = omega arith
 
 pub returns : goal.returns
 returns c =
-    let d = c in
-    let a = d.args in
+    let a = c.args in
     columns_is a.first_column a.end_column a.block _ _ _ _ _
-    d.covered-a.ensures.0 d.covered-b.ensures.0 d.covered-c.ensures.0 d.covered-d.ensures.0
+    c.covered-a.ensures.0 c.covered-b.ensures.0 c.covered-c.ensures.0 c.covered-d.ensures.0
     c.all_quads.ensures

@@ -1,5 +1,5 @@
 -- `planner::columns::covered` meets its contract. Assumes nothing.
-use native.Mathlib.Omega.{arith}
+use Rattle.std.proofs.Common.{arith}
 use Rattle.planner.proofs.columns.covered.Goals as goal
 
 pub returns-then-first_column-column : goal.returns-then-first_column-column

@@ -1,9 +1,5 @@
 -- `planner::lists::put_blocks` meets its contract. Assumes nothing.
-use borrow.Author.Rules.{rules}
-use mathlib.Core.Path.{ap, ap₂, ◌∙◌}
-use mathlib.Core.List.{List, ◌++◌}
-use Prim.Native.Nat.{ℕ, ◌+◌, ◌-◌, ◌*◌}
-use native.Mathlib.Omega.{arith}
+use Rattle.std.proofs.Common.{ap, ap₂, ◌∙◌, List, ◌++◌, ℕ, ◌+◌, ◌-◌, ◌*◌, arith}
 use lib.Seq.{sets}
 use Rattle.numbers.specs.BufferLaws.{sets_append}
 use Rattle.planner.specs.Bytes.{load_bytes, columns_in, block_rows}
@@ -22,19 +18,15 @@ returns-then-list-bytes c =
 
 pub returns : goal.returns
 returns c =
-    let w = c in
-    let d = w in
-    let q = d in
-    let k = q in
-    let e = k.area-blocks.ensures.0 in
-    let a = k.args in
+    let e = c.area-blocks.ensures.0 in
+    let a = c.args in
     let f = columns_in a.first_column a.end_column a.block in
     let g = columns_in a.first_column a.end_column (a.block + (a.n - 1)) in
     let b = block_rows a.block f g a.mask a.n a.row a.height in
     let l = block_bytes_length a.block f g a.mask a.n a.row a.height in
     stored_done (load_bytes a.colour ++ b) (1 + a.height * a.n) a.list.now _ _ _
     (omega (arith, l, e)) (ap (λ (x : ℕ). 1 + x) e) (omega (arith, l, e))
-    (w.put_block_rows.ensures
-    ∙ ap₂ (λ (x y : ℕ). sets d.put_load.new.list 6 (block_rows a.block x y a.mask a.n a.row a.height)) q.columns_of-first.ensures q.columns_of-last.ensures
-    ∙ ap (λ (t : List ℕ). sets t 6 b) d.put_load.ensures
+    (c.put_block_rows.ensures
+    ∙ ap₂ (λ (x y : ℕ). sets c.put_load.new.list 6 (block_rows a.block x y a.mask a.n a.row a.height)) c.columns_of-first.ensures c.columns_of-last.ensures
+    ∙ ap (λ (t : List ℕ). sets t 6 b) c.put_load.ensures
     ∙ sets_append (load_bytes a.colour) b a.list.now 0)

@@ -1,7 +1,5 @@
 -- `planner::lists::put_words` meets its contract. Assumes nothing.
-use borrow.Author.Rules.{rules}
-use Prim.Native.Nat.{◌*◌}
-use native.Mathlib.Omega.{arith}
+use Rattle.std.proofs.Common.{◌*◌, arith}
 use Rattle.planner.specs.Bytes.{word_rows}
 use Rattle.planner.proofs.PlanLaws.{word_bytes_length}
 use Rattle.planner.proofs.CallLaws.{stored_short, stored_done}
@@ -16,10 +14,8 @@ returns-then-list-bytes c =
 
 pub returns : goal.returns
 returns c =
-    let w = c in
-    let k = w in
-    let e = k.area-cycles.ensures.0 in
-    let a = k.args in
+    let e = c.area-cycles.ensures.0 in
+    let a = c.args in
     let l = word_bytes_length a.column a.width a.colour a.mask a.row a.height in
     stored_done (word_rows a.column a.width a.colour a.mask a.row a.height) (a.height * a.width) a.list.now _ _ _
-    (omega (arith, l, e)) e (omega (arith, l, e)) w.put_word_rows.ensures
+    (omega (arith, l, e)) e (omega (arith, l, e)) c.put_word_rows.ensures

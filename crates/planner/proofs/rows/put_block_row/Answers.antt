@@ -1,9 +1,5 @@
 -- `planner::rows::put_block_row` meets its contract. Assumes nothing.
-use borrow.Author.Rules.{rules}
-use mathlib.Core.Path.{ap, ◌∙◌}
-use mathlib.Core.List.{List}
-use Prim.Native.Nat.{ℕ, ◌+◌, ◌-◌, ◌*◌}
-use native.Mathlib.Omega.{arith}
+use Rattle.std.proofs.Common.{ap, ◌∙◌, List, ℕ, ◌+◌, ◌-◌, ◌*◌, arith}
 use lib.Seq.{sets}
 use Rattle.planner.specs.Bytes.{write_at, row_bytes}
 use Rattle.planner.proofs.BytesLaws.{one_stored, more_stored}
@@ -11,21 +7,15 @@ use Rattle.planner.proofs.rows.put_block_row.Goals as goal
 
 pub returns-then-n-eq1 : goal.returns-then-n-eq1
 returns-then-n-eq1 c =
-    let w = c in
-    let q = w in
-    let a = q.args in
-    w.put_write.ensures
-    ∙ one_stored a.block a.first a.last a.mask a.n a.row q.place_of-place.result q.place_of-place.ensures.0 a.list.now a.at c.if-n-eq1.true
+    let a = c.args in
+    c.put_write.ensures
+    ∙ one_stored a.block a.first a.last a.mask a.n a.row c.place_of-place.result c.place_of-place.ensures.0 a.list.now a.at c.if-n-eq1.true
 
 pub returns : goal.returns
 returns c =
-    let v = c in
-    let r = v in
-    let w = r in
-    let q = w in
-    let a = q.args in
-    let p = q.place_of-place.result in
-    v.put_write-2.ensures
+    let a = c.args in
+    let p = c.place_of-place.result in
+    c.put_write-2.ensures
     ∙ ap (λ (l : List ℕ). sets l (a.at + 13 * (a.n - 1)) (write_at 2 (p + 4 * (a.n - 1)) a.last a.mask))
-    (r.put_row.ensures ∙ ap (λ (l : List ℕ). sets l (a.at + 13) (row_bytes 2 (p + 4) 4 65535 a.mask (a.n - 2))) w.put_write.ensures)
-    ∙ more_stored a.block a.first a.last a.mask a.n a.row p q.place_of-place.ensures.0 a.list.now a.at (omega arith)
+    (c.put_row.ensures ∙ ap (λ (l : List ℕ). sets l (a.at + 13) (row_bytes 2 (p + 4) 4 65535 a.mask (a.n - 2))) c.put_write.ensures)
+    ∙ more_stored a.block a.first a.last a.mask a.n a.row p c.place_of-place.ensures.0 a.list.now a.at (omega arith)

@@ -1,11 +1,5 @@
 -- `planner::rows::put_block_rows` meets its contract. The invariant: `o` stands after i rows, and those are stored. Assumes nothing.
-use borrow.Author.Rules.{rules}
-use mathlib.Core.Path.{◌≡◌, refl, sym, ap, ap₂, ◌∙◌}
-use mathlib.Core.List.{List}
-use Prim.Native.Nat.{ℕ, ◌+◌, ◌-◌, ◌*◌, ◌≤◌}
-use native.Mathlib.Nat.{mul-le-mul_right}
-use native.Mathlib.Omega.{arith}
-use lib.ListN.{length}
+use Rattle.std.proofs.Common.{◌≡◌, refl, sym, ap, ap₂, ◌∙◌, List, ℕ, ◌+◌, ◌*◌, ◌≤◌, mul-le-mul_right, arith, length}
 use lib.Seq.{sets, length-sets}
 use Rattle.planner.specs.Bytes.{block_row, block_rows}
 use Rattle.planner.proofs.BytesLaws.{block_rows_none, block_rows_more}
@@ -41,11 +35,10 @@ loop-i-smaller c = omega arith
 
 pub loop-i-preserved : goal.loop-i-preserved
 loop-i-preserved c =
-    let w = c in
-    let k = w.loop-i in
-    let a = w.args in
-    let f : w.put_block_row.new.list ≡ sets a.list.now 6 (block_rows a.block a.first a.last a.mask a.n a.row (k.i + 1)) =
-    w.put_block_row.ensures
+    let k = c.loop-i in
+    let a = c.args in
+    let f : c.put_block_row.new.list ≡ sets a.list.now 6 (block_rows a.block a.first a.last a.mask a.n a.row (k.i + 1)) =
+    c.put_block_row.ensures
     ∙ ap₂ (λ (l : List ℕ) (o : ℕ). sets l o (block_row a.block a.first a.last a.mask a.n (a.row + k.i))) k.invariant.3 k.invariant.1
     ∙ block_rows_more a.block a.first a.last a.mask a.n a.list.now a.row k.i in
     (omega arith, omega arith, ap length f ∙ length-sets a.list.now 6 (block_rows a.block a.first a.last a.mask a.n a.row (k.i + 1)), f)

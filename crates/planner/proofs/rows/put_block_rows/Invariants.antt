@@ -1,14 +1,7 @@
 -- `planner::rows::put_block_rows` meets its contract. The invariant: `o` stands after i rows, and those are stored. Assumes nothing.
-use borrow.Author.Rules.{rules}
-use mathlib.Core.Path.{◌≡◌, refl, sym, ap, ap₂, ◌∙◌}
-use mathlib.Core.List.{List}
-use Prim.Native.Nat.{ℕ, ◌+◌, ◌-◌, ◌*◌, ◌≤◌}
-use native.Mathlib.Nat.{mul-le-mul_right}
-use native.Mathlib.Omega.{arith}
-use lib.ListN.{length}
-use lib.Seq.{sets, length-sets}
-use Rattle.planner.specs.Bytes.{block_row, block_rows}
-use Rattle.planner.proofs.BytesLaws.{block_rows_none, block_rows_more}
+use Rattle.std.proofs.Common.{◌≡◌, ◌+◌, ◌-◌, ◌*◌, ◌≤◌, length}
+use lib.Seq.{sets}
+use Rattle.planner.specs.Bytes.{block_rows}
 use Rattle.planner.proofs.rows.put_block_rows.Given as goal
 
 abbrev pub invariant-loop-i : goal.invariant-loop-i

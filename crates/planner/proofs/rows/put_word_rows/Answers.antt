@@ -1,11 +1,5 @@
 -- `planner::rows::put_word_rows` meets its contract. The invariant: `o` stands after i rows, and those are stored. Assumes nothing.
-use borrow.Author.Rules.{rules}
-use mathlib.Core.Path.{◌≡◌, refl, sym, ap, ap₂, ◌∙◌}
-use mathlib.Core.List.{List}
-use Prim.Native.Nat.{ℕ, ◌+◌, ◌-◌, ◌*◌, ◌≤◌}
-use native.Mathlib.Nat.{mul-le-mul_right}
-use native.Mathlib.Omega.{arith}
-use lib.ListN.{length}
+use Rattle.std.proofs.Common.{◌≡◌, refl, sym, ap, ap₂, ◌∙◌, List, ℕ, ◌+◌, ◌*◌, ◌≤◌, mul-le-mul_right, arith, length}
 use lib.Seq.{sets, length-sets}
 use Rattle.planner.specs.Bytes.{row_bytes, word_rows}
 use Rattle.planner.proofs.BytesLaws.{word_rows_none, word_rows_more}
@@ -44,13 +38,12 @@ loop-i-smaller c = omega arith
 
 pub loop-i-preserved : goal.loop-i-preserved
 loop-i-preserved c =
-    let w = c in
-    let k = w.loop-i in
-    let a = w.args in
-    let f : w.put_row.new.list ≡ sets a.list.now 0 (word_rows a.column a.width a.colour a.mask a.row (k.i + 1)) =
-    w.put_row.ensures
-    ∙ ap₂ (λ (l : List ℕ) (o : ℕ). sets l o (row_bytes 1 w.place_of.result 1 a.colour a.mask a.width)) k.invariant.3 k.invariant.1
-    ∙ ap (λ (p : ℕ). sets (sets a.list.now 0 (word_rows a.column a.width a.colour a.mask a.row k.i)) (k.i * (13 * a.width)) (row_bytes 1 p 1 a.colour a.mask a.width)) w.place_of.ensures.0
+    let k = c.loop-i in
+    let a = c.args in
+    let f : c.put_row.new.list ≡ sets a.list.now 0 (word_rows a.column a.width a.colour a.mask a.row (k.i + 1)) =
+    c.put_row.ensures
+    ∙ ap₂ (λ (l : List ℕ) (o : ℕ). sets l o (row_bytes 1 c.place_of.result 1 a.colour a.mask a.width)) k.invariant.3 k.invariant.1
+    ∙ ap (λ (p : ℕ). sets (sets a.list.now 0 (word_rows a.column a.width a.colour a.mask a.row k.i)) (k.i * (13 * a.width)) (row_bytes 1 p 1 a.colour a.mask a.width)) c.place_of.ensures.0
     ∙ word_rows_more a.column a.width a.colour a.mask a.list.now a.row k.i in
     (omega arith, omega arith, ap length f ∙ length-sets a.list.now 0 (word_rows a.column a.width a.colour a.mask a.row (k.i + 1)), f)
 

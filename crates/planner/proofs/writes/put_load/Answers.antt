@@ -1,7 +1,5 @@
 -- `planner::writes::put_load` meets its contract. Assumes nothing.
-use borrow.Author.Rules.{rules}
-use native.Mathlib.Omega.{arith}
-use lib.ListN.{length-set}
+use Rattle.std.proofs.Common.{arith, length-set}
 use Rattle.planner.proofs.writes.put_load.Goals as goal
 
 pub bounds-list-1 : goal.bounds-list-1

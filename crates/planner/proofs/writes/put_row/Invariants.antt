@@ -1,14 +1,8 @@
 -- `planner::writes::put_row` meets its contract. The invariant: `o` and `place` stand after i writes, and those are stored.
 -- Assumes nothing.
-use mathlib.Core.Path.{◌≡◌, refl, sym, ap, ap₂, ◌∙◌}
-use mathlib.Core.List.{List}
-use Prim.Native.Nat.{ℕ, ◌+◌, ◌-◌, ◌*◌, ◌≤◌}
-use native.Mathlib.Omega.{arith}
-use native.Mathlib.Nat.{mul-add, mul-one}
-use lib.ListN.{length}
-use lib.Seq.{sets, length-sets}
-use Rattle.planner.specs.Bytes.{write_at, row_bytes}
-use Rattle.planner.proofs.BytesLaws.{row_none, row_more}
+use Rattle.std.proofs.Common.{◌≡◌, ◌+◌, ◌-◌, ◌*◌, ◌≤◌, length}
+use lib.Seq.{sets}
+use Rattle.planner.specs.Bytes.{row_bytes}
 use Rattle.planner.proofs.writes.put_row.Given as goal
 
 abbrev pub invariant-loop-i : goal.invariant-loop-i

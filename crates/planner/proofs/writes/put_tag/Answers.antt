@@ -1,8 +1,5 @@
 -- `planner::writes::put_tag` meets its contract. Assumes nothing.
-use borrow.Author.Rules.{rules}
-use native.Mathlib.Omega.{arith}
-use lib.ListN.{length-set}
-use mathlib.Core.List.{[], ◌∷◌}
+use Rattle.std.proofs.Common.{arith, length-set, [], ◌∷◌}
 use Rattle.numbers.specs.BufferLaws.{stores_sets}
 use Rattle.planner.proofs.writes.put_tag.Goals as goal
 

@@ -1,7 +1,6 @@
 -- `report::text::digit` meets its contract. Assumes nothing.
+use Rattle.std.proofs.Common.{lt-ltb, le-ltb}
 use Rattle.report.specs.Text.{digit}
-use borrow.Author.Tests.{lt-ltb, le-ltb}
-use borrow.Author.Rules.{rules}
 use Rattle.report.proofs.text.digit.Goals as goal
 
 pub returns-then-d-lt10 : goal.returns-then-d-lt10

@@ -1,14 +1,6 @@
 -- `report::text::put_words` meets its contract: one word more at each turn. Assumes nothing.
-use mathlib.Core.Path.{subst}
-use mathlib.Core.Path.{◌≡◌, refl}
-use mathlib.Core.List.{List}
-use Prim.Native.Nat.{ℕ, ◌≤◌, ◌-◌}
-use native.Mathlib.Omega.{arith}
-use borrow.Author.Rules.{rules}
-use lib.ListN.{length, take}
-use lib.Seq.{take_all}
+use Rattle.std.proofs.Common.{◌≤◌, ◌-◌, length, take}
 use Rattle.report.specs.Text.{word_lines, Put}
-use Rattle.report.specs.TextLaws.{put_nothing, put_size, lines_most, put_lines}
 use Rattle.report.proofs.text.put_words.Given as goal
 
 abbrev pub invariant-loop-i : goal.invariant-loop-i

@@ -1,5 +1,4 @@
 -- `vram::Stop::length` meets its contract. Assumes nothing.
-use Rattle.std.proofs.Common.{rules}
 use Rattle.vram.proofs.Stop.length.Goals as goal
 
 pub returns-in-Every16 : goal.returns-in-Every16

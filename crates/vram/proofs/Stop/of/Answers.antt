@@ -12,7 +12,7 @@ pub returns-in-64 : goal.returns-in-64
 returns-in-64 c = rw c.in-64.is
 
 pub returns-in_default : goal.returns-in_default
-returns-in_default c = 
+returns-in_default c =
     let sixteen : c.args.length ≢ 16 = omega arith in
     let thirty_two : c.args.length ≢ 32 = omega arith in
     let sixty_four : c.args.length ≢ 64 = omega arith in

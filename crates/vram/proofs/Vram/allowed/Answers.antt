@@ -1,7 +1,7 @@
 -- `vram::Vram::allowed` meets its contract. Assumes nothing.
 use Rattle.words.specs.Word.{covers}
 use Rattle.words.specs.CodeLaws.{joined}
-use Rattle.std.proofs.Common.{ap, ◌∙◌, rules}
+use Rattle.std.proofs.Common.{ap, ◌∙◌}
 use lib.Bits.{bit_and}
 use Rattle.vram.proofs.Vram.allowed.Goals as goal
 

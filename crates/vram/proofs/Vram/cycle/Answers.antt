@@ -1,5 +1,5 @@
 -- `vram::Vram::cycle` meets its contract: what each kind ensures is what the whole call owes, by `did`. Assumes nothing.
-use Rattle.std.proofs.Common.{refl, rules}
+use Rattle.std.proofs.Common.{refl}
 use Rattle.numbers.specs.Refuse.{first_of}
 use Rattle.vram.specs.Board.{effect}
 use Rattle.refusals.specs.Refusal.{full_refusal, split_refusal}
@@ -10,31 +10,25 @@ use Rattle.vram.proofs.Vram.cycle.Goals as goal
 pub returns-in-WordWrite : goal.returns-in-WordWrite
 unfolding effect refusal
 returns-in-WordWrite c =
-    let w = c in
-    let k = w in
-    rw k.in-WordWrite.is
-    (did _ _ _ _ _ w.word_write-n.ensures.number (untouched w.word_write-n.result _) w.word_write-n.ensures.leaves (untouched w.word_write-n.result _))
+    rw c.in-WordWrite.is
+    (did _ _ _ _ _ c.word_write-n.ensures.number (untouched c.word_write-n.result _) c.word_write-n.ensures.leaves (untouched c.word_write-n.result _))
 
 pub returns-in-BlockWrite : goal.returns-in-BlockWrite
 unfolding effect refusal
 returns-in-BlockWrite c =
-    let w = c in
-    let k = w in
-    rw k.in-BlockWrite.is
-    (did _ _ _ _ _ w.block_write-n.ensures.number (untouched w.block_write-n.result _) w.block_write-n.ensures.leaves (untouched w.block_write-n.result _))
+    rw c.in-BlockWrite.is
+    (did _ _ _ _ _ c.block_write-n.ensures.number (untouched c.block_write-n.result _) c.block_write-n.ensures.leaves (untouched c.block_write-n.result _))
 
 pub returns-in-LoadColour : goal.returns-in-LoadColour
 unfolding effect refusal
 returns-in-LoadColour c =
-    let k = c in
-    rw (k.in-LoadColour.is, c.load_colour.ensures)
+    rw (c.in-LoadColour.is, c.load_colour.ensures)
     (did_alone _ _ _ _ _ refl refl refl refl)
 
 pub returns-in-LoadMask : goal.returns-in-LoadMask
 unfolding effect refusal
 returns-in-LoadMask c =
-    let k = c in
-    rw (k.in-LoadMask.is, c.load_mask.ensures)
+    rw (c.in-LoadMask.is, c.load_mask.ensures)
     (did_alone _ _ _ _ _ refl refl refl refl)
 
 pub returns-in-ResetRefresh : goal.returns-in-ResetRefresh
@@ -46,22 +40,17 @@ returns-in-ResetRefresh c =
 pub returns-in-FullTransfer : goal.returns-in-FullTransfer
 unfolding effect refusal
 returns-in-FullTransfer c =
-    let t = c in
-    let k = t in
-    rw (k.in-FullTransfer.is, t.full_transfer.ensures.answer)
-    (did _ _ _ _ _ refl refl (untouched (first_of (given _ _ _) (full_refusal _ _ _)) _) t.full_transfer.ensures.serial)
+    rw (c.in-FullTransfer.is, c.full_transfer.ensures.answer)
+    (did _ _ _ _ _ refl refl (untouched (first_of (given _ _ _) (full_refusal _ _ _)) _) c.full_transfer.ensures.serial)
 
 pub returns-in-SplitTransfer : goal.returns-in-SplitTransfer
 unfolding effect refusal
 returns-in-SplitTransfer c =
-    let t = c in
-    let k = t in
-    rw (k.in-SplitTransfer.is, t.split_transfer.ensures.answer)
-    (did _ _ _ _ _ refl refl (untouched (first_of (given _ _ _) (split_refusal _ _ _ _ _)) _) t.split_transfer.ensures.serial)
+    rw (c.in-SplitTransfer.is, c.split_transfer.ensures.answer)
+    (did _ _ _ _ _ refl refl (untouched (first_of (given _ _ _) (split_refusal _ _ _ _ _)) _) c.split_transfer.ensures.serial)
 
 pub returns-in-StopPoints : goal.returns-in-StopPoints
 unfolding effect refusal
 returns-in-StopPoints c =
-    let k = c in
-    rw (k.in-StopPoints.is, c.stop_points.ensures)
+    rw (c.in-StopPoints.is, c.stop_points.ensures)
     (did_alone _ _ _ _ _ refl refl refl refl)

@@ -1,5 +1,5 @@
 -- `vram::Vram::full_transfer` meets its contract. Assumes nothing.
-use Rattle.std.proofs.Common.{ℕ, length, sym, ap, ◌∙◌, arith, rules}
+use Rattle.std.proofs.Common.{ℕ, length, sym, ap, ◌∙◌, arith}
 use Rattle.vram.specs.Memory.{copied}
 use Rattle.refusals.specs.RefusalLaws.{full_zero, transfer_within}
 use Rattle.vram.specs.RefusalLaws.{given_zero}
@@ -11,27 +11,19 @@ returns-then-n-ne-DONE c = transfer_refused _ _ _ _ _ _ (given_refuses _ _ _ c.g
 
 pub returns-then-n-ne-DONE-2 : goal.returns-then-n-ne-DONE-2
 returns-then-n-ne-DONE-2 c =
-    let d = c in
-    transfer_refused _ _ _ _ _ _ (own_decides _ _ _ d.given-n.ensures d.if-n-ne-DONE.false c.full_refusal-n.ensures) c.if-n-ne-DONE-2.true
+    transfer_refused _ _ _ _ _ _ (own_decides _ _ _ c.given-n.ensures c.if-n-ne-DONE.false c.full_refusal-n.ensures) c.if-n-ne-DONE-2.true
 
 pub copy-requires : goal.copy-requires
 copy-requires c =
-    let p = c in
-    let e = p in
-    let d = e in
-    let a = d.args in
-    let z = full_zero _ a.row a.half (sym e.full_refusal-n.ensures ∙ e.if-n-ne-DONE-2.false) in
+    let a = c.args in
+    let z = full_zero _ a.row a.half (sym c.full_refusal-n.ensures ∙ c.if-n-ne-DONE-2.false) in
     let w = transfer_within (length a.memory.now) a.row a.half 0 256 z.0 z.1 (omega arith) in
-    let g = given_zero _ _ _ (sym d.given-n.ensures ∙ d.if-n-ne-DONE.false) in
-    (omega (arith, p.place-from.ensures, w), omega (arith, g.register))
+    let g = given_zero _ _ _ (sym c.given-n.ensures ∙ c.if-n-ne-DONE.false) in
+    (omega (arith, c.place-from.ensures, w), omega (arith, g.register))
 
 pub returns : goal.returns
 returns c =
-    let k = c in
-    let p = k in
-    let e = p in
-    let d = e in
-    let a = d.args in
-    transfer_done _ _ _ _ _ _ (own_decides _ _ _ d.given-n.ensures d.if-n-ne-DONE.false e.full_refusal-n.ensures) e.if-n-ne-DONE-2.false
+    let a = c.args in
+    transfer_done _ _ _ _ _ _ (own_decides _ _ _ c.given-n.ensures c.if-n-ne-DONE.false c.full_refusal-n.ensures) c.if-n-ne-DONE-2.false
     c.with_serial-state.ensures
-    (k.copy.ensures ∙ ap (λ (i : ℕ). copied a.memory.now i a.serial.now 0 256) p.place-from.ensures)
+    (c.copy.ensures ∙ ap (λ (i : ℕ). copied a.memory.now i a.serial.now 0 256) c.place-from.ensures)

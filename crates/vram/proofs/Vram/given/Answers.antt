@@ -1,6 +1,5 @@
 -- `vram::Vram::given` meets its contract. Assumes nothing.
 use Rattle.vram.specs.Refusal.{given}
-use Rattle.std.proofs.Common.{rules}
 use Rattle.vram.proofs.Vram.given.Goals as goal
 
 pub returns : goal.returns

@@ -1,5 +1,5 @@
 -- `vram::Vram::load_mask` meets its contract. Assumes nothing.
-use Rattle.std.proofs.Common.{ℕ, true, ap, ◌∙◌, rules}
+use Rattle.std.proofs.Common.{ℕ, true, ap, ◌∙◌}
 use Rattle.numbers.specs.RefuseLaws.{refused_is, done_is}
 use Rattle.words.specs.Word.{covers}
 use Rattle.words.specs.WordLaws.{merged_by_mask}
@@ -13,15 +13,11 @@ returns-then-n-ne-DONE c = refused_is answered _ _ _ _ (given_refuses _ _ _ c.gi
 
 pub returns-then-n-ne-DONE-2 : goal.returns-then-n-ne-DONE-2
 returns-then-n-ne-DONE-2 c =
-    let d = c in
-    refused_is answered _ _ _ _ (own_decides _ _ _ d.given-n.ensures d.if-n-ne-DONE.false c.load_refusal-n.ensures) c.if-n-ne-DONE-2.true
+    refused_is answered _ _ _ _ (own_decides _ _ _ c.given-n.ensures c.if-n-ne-DONE.false c.load_refusal-n.ensures) c.if-n-ne-DONE-2.true
 
 pub returns : goal.returns
 returns c =
-    let m = c in
-    let e = m in
-    let d = e in
-    let a = d.args in
-    done_is answered _ _ _ _ _ (own_decides _ _ _ d.given-n.ensures d.if-n-ne-DONE.false e.load_refusal-n.ensures) e.if-n-ne-DONE-2.false
+    let a = c.args in
+    done_is answered _ _ _ _ _ (own_decides _ _ _ c.given-n.ensures c.if-n-ne-DONE.false c.load_refusal-n.ensures) c.if-n-ne-DONE-2.false
     (c.with_mask-state.ensures
-    ∙ ap (λ (v : ℕ). with_mask a.self v true) (m.merge-mask.ensures ∙ merged_by_mask _ _ _ (covers a.strobes) m.strobe_mask.ensures))
+    ∙ ap (λ (v : ℕ). with_mask a.self v true) (c.merge-mask.ensures ∙ merged_by_mask _ _ _ (covers a.strobes) c.strobe_mask.ensures))

@@ -1,5 +1,5 @@
 -- `vram::Vram::reset_refresh` meets its contract. Assumes nothing.
-use Rattle.std.proofs.Common.{refl, ap, ◌∙◌, rules}
+use Rattle.std.proofs.Common.{refl, ap, ◌∙◌}
 use Rattle.numbers.specs.RefuseLaws.{refused_is, done_is}
 use Rattle.vram.specs.declared.Vram.{Vram}
 use Rattle.vram.specs.declared.Stop.TheVariants.{Every128}
@@ -13,6 +13,5 @@ returns-then-n-ne-DONE c = refused_is answered _ _ _ _ (given_refuses _ _ _ c.gi
 
 pub returns : goal.returns
 returns c =
-    let d = c in
-    done_is answered _ _ _ _ _ (own_decides _ _ _ d.given-n.ensures d.if-n-ne-DONE.false refl) refl
+    done_is answered _ _ _ _ _ (own_decides _ _ _ c.given-n.ensures c.if-n-ne-DONE.false refl) refl
     (c.with_stop-state.ensures ∙ ap (λ (x : Vram). with_stop x Every128) c.with_mask-plain.ensures)

@@ -1,6 +1,5 @@
 -- `vram::Vram::ruled` meets its contract. Assumes nothing.
 use Rattle.vram.specs.State.{ruled}
-use Rattle.std.proofs.Common.{rules}
 use Rattle.vram.proofs.Vram.ruled.Goals as goal
 
 pub returns-in-None : goal.returns-in-None

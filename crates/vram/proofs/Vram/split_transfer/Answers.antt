@@ -1,5 +1,5 @@
 -- `vram::Vram::split_transfer` meets its contract. Assumes nothing.
-use Rattle.std.proofs.Common.{ℕ, ◌+◌, length, sym, ap, ◌∙◌, ap₂, arith, rules}
+use Rattle.std.proofs.Common.{ℕ, ◌+◌, length, sym, ap, ◌∙◌, ap₂, arith}
 use Rattle.refusals.specs.RefusalLaws.{split_zero, transfer_within}
 use Rattle.vram.specs.declared.Waiting.TheVariants.{Tap}
 use Rattle.vram.specs.State.{with_serial}
@@ -13,37 +13,25 @@ returns-then-n-ne-DONE c = transfer_refused _ _ _ _ _ _ (given_refuses _ _ _ c.g
 
 pub returns-then-n-ne-DONE-2 : goal.returns-then-n-ne-DONE-2
 returns-then-n-ne-DONE-2 c =
-    let d = c in
-    transfer_refused _ _ _ _ _ _ (own_decides _ _ _ d.given-n.ensures d.if-n-ne-DONE.false c.split_refusal-n.ensures) c.if-n-ne-DONE-2.true
+    transfer_refused _ _ _ _ _ _ (own_decides _ _ _ c.given-n.ensures c.if-n-ne-DONE.false c.split_refusal-n.ensures) c.if-n-ne-DONE-2.true
 
 pub copy-requires : goal.copy-requires
 copy-requires c =
-    let p = c in
-    let h = p in
-    let e = h in
-    let d = e in
-    let a = d.args in
-    let z = split_zero _ a.self.loaded a.row a.half a.tap (sym e.split_refusal-n.ensures ∙ e.if-n-ne-DONE-2.false) in
-    let w = transfer_within (length a.memory.now) a.row a.half h.other_half-first.result 128 z.row_fitted z.half_within (omega (arith, h.other_half-first.ensures.1)) in
-    let g = given_zero _ _ _ (sym d.given-n.ensures ∙ d.if-n-ne-DONE.false) in
-    (omega (arith, p.place.ensures, w), omega (arith, g.register, h.other_half-first.ensures.1))
+    let a = c.args in
+    let z = split_zero _ a.self.loaded a.row a.half a.tap (sym c.split_refusal-n.ensures ∙ c.if-n-ne-DONE-2.false) in
+    let w = transfer_within (length a.memory.now) a.row a.half c.other_half-first.result 128 z.row_fitted z.half_within (omega (arith, c.other_half-first.ensures.1)) in
+    let g = given_zero _ _ _ (sym c.given-n.ensures ∙ c.if-n-ne-DONE.false) in
+    (omega (arith, c.place.ensures, w), omega (arith, g.register, c.other_half-first.ensures.1))
 
 pub overflow_add-first : goal.overflow_add-first
 overflow_add-first c =
-    let h = c in
-    let e = h in
-    let a = e.args in
-    let z = split_zero _ a.self.loaded a.row a.half a.tap (sym e.split_refusal-n.ensures ∙ e.if-n-ne-DONE-2.false) in
-    omega (arith, z.tap_within, h.other_half-first.ensures.1)
+    let a = c.args in
+    let z = split_zero _ a.self.loaded a.row a.half a.tap (sym c.split_refusal-n.ensures ∙ c.if-n-ne-DONE-2.false) in
+    omega (arith, z.tap_within, c.other_half-first.ensures.1)
 
 pub returns : goal.returns
 returns c =
-    let k = c in
-    let p = k in
-    let h = p in
-    let e = h in
-    let d = e in
-    let a = d.args in
-    transfer_done _ _ _ _ _ _ (own_decides _ _ _ d.given-n.ensures d.if-n-ne-DONE.false e.split_refusal-n.ensures) e.if-n-ne-DONE-2.false
-    (c.with_serial-state.ensures ∙ ap (λ (x : ℕ). with_serial a.self a.self.loaded a.self.pointer (Tap (x + a.tap))) h.other_half-first.ensures.0)
-    (k.copy.ensures ∙ ap₂ (λ (i x : ℕ). copied a.memory.now (i + x) a.serial.now x 128) p.place.ensures h.other_half-first.ensures.0)
+    let a = c.args in
+    transfer_done _ _ _ _ _ _ (own_decides _ _ _ c.given-n.ensures c.if-n-ne-DONE.false c.split_refusal-n.ensures) c.if-n-ne-DONE-2.false
+    (c.with_serial-state.ensures ∙ ap (λ (x : ℕ). with_serial a.self a.self.loaded a.self.pointer (Tap (x + a.tap))) c.other_half-first.ensures.0)
+    (c.copy.ensures ∙ ap₂ (λ (i x : ℕ). copied a.memory.now (i + x) a.serial.now x 128) c.place.ensures c.other_half-first.ensures.0)

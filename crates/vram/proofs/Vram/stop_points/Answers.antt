@@ -1,5 +1,5 @@
 -- `vram::Vram::stop_points` meets its contract. Assumes nothing.
-use Rattle.std.proofs.Common.{ap, ◌∙◌, rules}
+use Rattle.std.proofs.Common.{ap, ◌∙◌}
 use Rattle.numbers.specs.RefuseLaws.{refused_is, done_is}
 use Rattle.vram.specs.State.{with_stop}
 use Rattle.vram.specs.Calls.{answered}
@@ -11,13 +11,10 @@ returns-then-n-ne-DONE c = refused_is answered _ _ _ _ (given_refuses _ _ _ c.gi
 
 pub returns-then-n-ne-DONE-2 : goal.returns-then-n-ne-DONE-2
 returns-then-n-ne-DONE-2 c =
-    let d = c in
-    refused_is answered _ _ _ _ (own_decides _ _ _ d.given-n.ensures d.if-n-ne-DONE.false c.stop_refusal-n.ensures) c.if-n-ne-DONE-2.true
+    refused_is answered _ _ _ _ (own_decides _ _ _ c.given-n.ensures c.if-n-ne-DONE.false c.stop_refusal-n.ensures) c.if-n-ne-DONE-2.true
 
 pub returns : goal.returns
 returns c =
-    let e = c in
-    let d = e in
-    let a = d.args in
-    done_is answered _ _ _ _ _ (own_decides _ _ _ d.given-n.ensures d.if-n-ne-DONE.false e.stop_refusal-n.ensures) e.if-n-ne-DONE-2.false
+    let a = c.args in
+    done_is answered _ _ _ _ _ (own_decides _ _ _ c.given-n.ensures c.if-n-ne-DONE.false c.stop_refusal-n.ensures) c.if-n-ne-DONE-2.false
     (c.with_stop-state.ensures ∙ ap (with_stop a.self) c.of.ensures)

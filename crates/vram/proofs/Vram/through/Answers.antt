@@ -1,5 +1,5 @@
 -- `vram::Vram::through` meets its contract. Assumes nothing.
-use Rattle.std.proofs.Common.{ℕ, ◌<◌, sym, ap, subst, le_of_lt, mod-lt, rules}
+use Rattle.std.proofs.Common.{ℕ, ◌<◌, sym, ap, subst, le_of_lt, mod-lt}
 use Rattle.vram.specs.Partition.{partition}
 use Rattle.vram.specs.Serial.{through_in, length_of}
 use Rattle.vram.proofs.Vram.through.Goals as goal
@@ -10,5 +10,5 @@ returns c = ap (λ (n : ℕ). through_in n c.args.self.pointer) c.length-length.
 
 pub overflow_sub-result : goal.overflow_sub-result
 unfolding length_of
-overflow_sub-result c = le_of_lt (mod-lt c.args.self.pointer 
+overflow_sub-result c = le_of_lt (mod-lt c.args.self.pointer
     (subst (λ (n : ℕ). 0 < n) (sym c.length-length.ensures) (partition c.args.self).some))

@@ -1,5 +1,5 @@
 -- `vram::Vram::word_write` meets its contract. Assumes nothing.
-use Rattle.std.proofs.Common.{ℕ, length, sym, ap, ◌∙◌, arith, rules}
+use Rattle.std.proofs.Common.{ℕ, length, sym, ap, ◌∙◌, arith}
 use Rattle.numbers.specs.RefuseLaws.{leaves_before}
 use Rattle.words.specs.Bit.{bit}
 use Rattle.vram.specs.Memory.{put}
@@ -17,33 +17,26 @@ returns-then-n-ne-DONE c = record {
 
 pub returns-then-n-ne-DONE-2 : goal.returns-then-n-ne-DONE-2
 returns-then-n-ne-DONE-2 c =
-    let d = c in
     record {
-  number = own_decides _ _ _ d.given-n.ensures d.if-n-ne-DONE.false c.write_refusal-n.ensures;
-  leaves = sym (leaves_before _ _ _ c.if-n-ne-DONE-2.true);
-}
+      number = own_decides _ _ _ c.given-n.ensures c.if-n-ne-DONE.false c.write_refusal-n.ensures;
+      leaves = sym (leaves_before _ _ _ c.if-n-ne-DONE-2.true);
+    }
 
 pub write_word-requires : goal.write_word-requires
 write_word-requires c =
-    let p = c in
-    let e = p in
-    let a = e.args in
+    let a = c.args in
     omega (
       arith,
-      p.place-at.ensures,
+      c.place-at.ensures,
       word_within (length a.memory.now) a.row a.column
-          (write_zero _ a.row a.column a.masking a.mask a.strobes (sym e.write_refusal-n.ensures ∙ e.if-n-ne-DONE-2.false)),
+          (write_zero _ a.row a.column a.masking a.mask a.strobes (sym c.write_refusal-n.ensures ∙ c.if-n-ne-DONE-2.false)),
     )
 
 pub returns : goal.returns
 returns c =
-    let w = c in
-    let p = w in
-    let e = p in
-    let d = e in
-    let a = d.args in record {
-  number = sym e.if-n-ne-DONE-2.false ∙ own_decides _ _ _ d.given-n.ensures d.if-n-ne-DONE.false e.write_refusal-n.ensures;
-  leaves = w.write_word.ensures
-          ∙ ap (λ (i : ℕ). put a.memory.now i a.word (bit w.allowed.result)) p.place-at.ensures
-          ∙ put_by_mask _ _ _ _ (allowed a.self a.masking a.mask a.strobes) w.allowed.ensures;
-}
+    let a = c.args in record {
+      number = sym c.if-n-ne-DONE-2.false ∙ own_decides _ _ _ c.given-n.ensures c.if-n-ne-DONE.false c.write_refusal-n.ensures;
+      leaves = c.write_word.ensures
+          ∙ ap (λ (i : ℕ). put a.memory.now i a.word (bit c.allowed.result)) c.place-at.ensures
+          ∙ put_by_mask _ _ _ _ (allowed a.self a.masking a.mask a.strobes) c.allowed.ensures;
+    }

@@ -1,5 +1,5 @@
 -- `vram::memory::copy` meets its contract: one turn of the loop is one more word pasted. Assumes nothing.
-use Rattle.std.proofs.Common.{◌≡◌, ℕ, ◌+◌, ◌-◌, ◌<◌, ◌≤◌, List, length, get_or, drop, set, ap, ◌∙◌, add-one, arith, length-drop, get_or-drop, rules}
+use Rattle.std.proofs.Common.{◌≡◌, ℕ, ◌+◌, ◌<◌, ◌≤◌, List, length, get_or, drop, set, ap, ◌∙◌, add-one, arith, length-drop, get_or-drop}
 use lib.Seq.{paste, paste-zero, paste-suc, length-paste}
 use Rattle.vram.specs.Memory.{copied}
 use Rattle.vram.proofs.memory.copy.Goals as goal
@@ -19,8 +19,7 @@ loop-i-init c = (omega arith, paste-zero c.args.serial.now c.args.to (drop c.arg
 pub bounds-serial-to : goal.bounds-serial-to
 bounds-serial-to c =
     let l = c.loop-i in
-    let s = c in
-    omega (arith, size s.args.serial.now s.args.memory.now l.serial s.args.to s.args.from s.args.n l.i s.requires.0 s.requires.1 l.invariant.1 l.invariant.0)
+    omega (arith, size c.args.serial.now c.args.memory.now l.serial c.args.to c.args.from c.args.n l.i c.requires.0 c.requires.1 l.invariant.1 l.invariant.0)
 
 pub loop-i-preserved : goal.loop-i-preserved
 loop-i-preserved c =
@@ -33,13 +32,11 @@ loop-i-preserved c =
 pub shape_of-serial : goal.shape_of-serial
 shape_of-serial c =
     let l = c.loop-i in
-    let s = c in
-    size s.args.serial.now s.args.memory.now l.serial s.args.to s.args.from s.args.n l.i s.requires.0 s.requires.1 l.invariant.1 l.invariant.0
+    size c.args.serial.now c.args.memory.now l.serial c.args.to c.args.from c.args.n l.i c.requires.0 c.requires.1 l.invariant.1 l.invariant.0
 
 pub returns : goal.returns
 unfolding copied
 returns c =
     let l = c.loop-i in
-    let s = c in
-    let e : l.i ≡ s.args.n = omega arith in
-    l.invariant.1 ∙ ap (paste s.args.serial.now s.args.to (drop s.args.from s.args.memory.now)) e
+    let e : l.i ≡ c.args.n = omega arith in
+    l.invariant.1 ∙ ap (paste c.args.serial.now c.args.to (drop c.args.from c.args.memory.now)) e

@@ -1,7 +1,6 @@
 -- `vram::memory::copy` meets its contract: one turn of the loop is one more word pasted. Assumes nothing.
-use Rattle.std.proofs.Common.{◌≡◌, ℕ, ◌+◌, ◌-◌, ◌<◌, ◌≤◌, List, length, get_or, drop, set, ap, ◌∙◌, add-one, arith, length-drop, get_or-drop, rules}
-use lib.Seq.{paste, paste-zero, paste-suc, length-paste}
-use Rattle.vram.specs.Memory.{copied}
+use Rattle.std.proofs.Common.{◌≡◌, ◌-◌, ◌≤◌, drop}
+use lib.Seq.{paste}
 use Rattle.vram.proofs.memory.copy.Given as goal
 
 abbrev pub invariant-loop-i : goal.invariant-loop-i

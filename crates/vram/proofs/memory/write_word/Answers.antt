@@ -1,5 +1,5 @@
 -- `vram::memory::write_word` meets its contract. Assumes nothing.
-use Rattle.std.proofs.Common.{set, ap, rules}
+use Rattle.std.proofs.Common.{set, ap}
 use Rattle.vram.specs.Memory.{put}
 use Rattle.vram.proofs.memory.write_word.Goals as goal
 

@@ -1,5 +1,5 @@
 -- `vram::serial::advance` meets its contract. Assumes nothing.
-use Rattle.std.proofs.Common.{arith, rules}
+use Rattle.std.proofs.Common.{arith}
 use Rattle.vram.proofs.serial.advance.Goals as goal
 
 pub returns : goal.returns
