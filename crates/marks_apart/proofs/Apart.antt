@@ -1,13 +1,10 @@
 -- The mark does not depend on the result: change request M-110. Assumes nothing.
-use Rattle.std.specs.Prelude.{ℕ, ◌<◌, ◌≡◌, List, ◌≢◌, length, get_or}
-use Rattle.words.specs.Word.{high}
+use Rattle.std.specs.Prelude.{ℕ, ◌≡◌, List, length}
 use Rattle.vram.specs.Board.{Board}
-use Rattle.vram.specs.Serial.{clocked_words}
 use Rattle.vram.specs.High.{Twins}
 use Rattle.palette.specs.declared.Palette.{Palette}
 use Rattle.panel.specs.declared.Width.{Width}
-use Rattle.panel.specs.Panel.{part_at, pixel_at}
-use Rattle.panel.specs.Calls.{Outcome, run_call_by}
+use Rattle.panel.specs.Panel.{part_at}
 use Rattle.panel.proofs.HighLaws.{answer_twins, pixel_twins}
 use Rattle.marks_apart.specs.Ways.{Way, ran}
 use Rattle.marks_apart.specs.WayLaws.{way_twins}

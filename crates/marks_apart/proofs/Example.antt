@@ -1,22 +1,22 @@
 -- What is shown of the two boards, by computation. Assumes nothing.
-use Rattle.std.specs.Prelude.{ℕ, zero, suc, ◌+◌, ◌*◌, ◌/◌, ◌%◌, ◌≡◌, refl, Bool, true, false, not, ◌&&◌, cond, List, [], ◌∷◌, ◌++◌, map, eqb, replicate}
+use Rattle.std.specs.Prelude.{◌≡◌, refl, true, [], ◌∷◌}
 use Rattle.words.specs.Bit.{bit, of_bits}
 use Rattle.words.specs.Word.{merged, covers, lets, high}
 use Rattle.refusals.specs.Refusal.{write_refusal, load_refusal, full_refusal}
-use Rattle.vram.specs.State.{ruled, fresh}
+use Rattle.vram.specs.State.{ruled}
 use Rattle.vram.specs.Memory.{put, puts, copied}
-use Rattle.vram.specs.Board.{Board, board, effect}
+use Rattle.vram.specs.Board.{effect}
 use Rattle.vram.specs.Refusal.{given, refusal}
 use Rattle.vram.specs.Step.{number, step_by, run_by}
 use Rattle.vram.specs.Serial.{clock_in, clocks_in, clocked_words_in, length_of}
 use Rattle.vram.specs.Calls.{clocks_refusal}
 use Rattle.vram.specs.Kinds.{tag_of, loads}
 use Rattle.vram.specs.High.{Twins}
-use Rattle.palette.specs.State.{ruled as palette_ruled, fresh as fresh_palette}
+use Rattle.palette.specs.State.{ruled as palette_ruled}
 use Rattle.panel.specs.declared.Width.{Width}
 use Rattle.panel.specs.declared.Width.TheVariants.{Six, Eight}
-use Rattle.panel.specs.Panel.{inverted, pixel, widened, unwidened, part_at, colour_of, bytes_of, pixel_at}
-use Rattle.panel.specs.Calls.{run_refusal, Outcome, run_call_by}
+use Rattle.panel.specs.Panel.{inverted, pixel, widened, unwidened, part_at, colour_of, bytes_of}
+use Rattle.panel.specs.Calls.{run_refusal, run_call_by}
 use Rattle.list.specs.Tags.{word, known, len_of, cycle_of}
 use Rattle.list.specs.Splits.{split}
 use Rattle.list.specs.Fields.{whole as whole_field, field_of, size_of}
@@ -26,9 +26,8 @@ use Rattle.pencil.specs.Bits.{with_bit, bit_by_bit, written, bits_left}
 use Rattle.pencil.specs.Memory.{word_written, block_written}
 use Rattle.pencil.specs.Pencil.{pencil}
 use Rattle.marks_apart.specs.Ways.{Which, fast, plain, engine_of, whole, ran}
-use Rattle.marks_apart.specs.Apart.{shown, word_of}
 use Rattle.marks_apart.specs.OneWord.{with_results}
-use Rattle.marks_apart.specs.Example.{places_from, marks, one, other, all_differ, list, colours_from, showing, marks_shown, alike, differing}
+use Rattle.marks_apart.specs.Example.{one, other, all_differ, list, showing, marks_shown, differing}
 
 -- they meet what is asked of two boards
 pub both_boards : Twins one other

@@ -1,18 +1,17 @@
 -- Where the two faulty engines show. Assumes nothing.
-use Rattle.std.specs.Prelude.{ℕ, ◌+◌, ◌*◌, ◌≡◌, refl, true, List, [], ◌∷◌, ◌++◌, get_or, replicate}
+use Rattle.std.specs.Prelude.{ℕ, ◌≡◌, refl, true, ◌++◌, replicate}
 use Rattle.std.proofs.Common.{arith}
 use Rattle.words.specs.Bit.{bit, of_bits}
 use Rattle.words.specs.Word.{merged, covers, lets, high}
 use Rattle.refusals.specs.Refusal.{write_refusal}
-use Rattle.vram.specs.declared.Cycle.{Cycle}
 use Rattle.vram.specs.declared.Cycle.TheVariants.{WordWrite, BlockWrite, LoadColour, LoadMask, ResetRefresh, FullTransfer, SplitTransfer, StopPoints}
-use Rattle.vram.specs.State.{ruled, fresh, with_colour}
+use Rattle.vram.specs.State.{ruled}
 use Rattle.vram.specs.Memory.{put, puts}
-use Rattle.vram.specs.Board.{Board, board, effect}
+use Rattle.vram.specs.Board.{effect}
 use Rattle.vram.specs.Refusal.{given, refusal}
-use Rattle.vram.specs.Step.{number, Engine, step_by, run_by}
+use Rattle.vram.specs.Step.{number, step_by, run_by}
 use Rattle.vram.specs.Kinds.{tag_of, loads}
-use Rattle.vram.specs.High.{Twins, KeepsTwins, spares}
+use Rattle.vram.specs.High.{KeepsTwins, spares}
 use Rattle.vram.proofs.HighLaws.{agree_at, effect_twins}
 use Rattle.list.specs.Tags.{word, known, len_of, cycle_of}
 use Rattle.list.specs.Splits.{split}

@@ -1,11 +1,10 @@
 -- The sentence that the chief technologist asked for, on one word: after any list, the high byte of a word is the same whatever the results
 -- below were. It follows from `marks_apart`. Change request M-110. Assumes nothing.
-use Rattle.std.specs.Prelude.{ℕ, suc, ◌+◌, ◌*◌, ◌%◌, ◌≡◌, refl, List, [], ◌∷◌, map, get_or}
+use Rattle.std.specs.Prelude.{ℕ, suc, ◌+◌, ◌*◌, ◌≡◌, refl, List, [], ◌∷◌, map}
 use Rattle.std.proofs.Common.{sym, ap₂, ◌∙◌, arith}
 use Rattle.words.specs.Word.{high}
 use Rattle.words.specs.WordLaws.{high_is}
 use Rattle.vram.specs.declared.Vram.{Vram}
-use Rattle.vram.specs.Board.{Board, board}
 use Rattle.vram.specs.High.{Agree, Twins}
 use Rattle.vram.proofs.HighLaws.{agree_at}
 use Rattle.palette.specs.State.{fresh}

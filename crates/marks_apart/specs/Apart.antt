@@ -1,6 +1,6 @@
 -- The mark does not depend on the result: change request M-110. A status mark is the high byte of a word, its result the low byte. Two boards
 -- that may differ in every low byte and in nothing else are given the same list and then the same run to the panel. Assumes nothing.
-use Rattle.std.specs.Prelude.{ℕ, ◌<◌, ◌≡◌, List, ◌≢◌, length, get_or}
+use Rattle.std.specs.Prelude.{ℕ, ◌<◌, ◌≡◌, List, ◌≢◌, get_or}
 use Rattle.words.specs.Word.{high}
 use Rattle.vram.specs.Board.{Board}
 use Rattle.vram.specs.Serial.{clocked_words}

@@ -1,27 +1,14 @@
 -- Two faulty engines, and where each shows: one that lets a result into a mark, and version one's, which ignored the byte strobes on a block
 -- write, so that marks went with results. Assumes nothing.
-use Rattle.std.specs.Prelude.{ℕ, ◌+◌, ◌*◌, ◌≡◌, refl, true, List, [], ◌∷◌, ◌++◌, get_or, replicate}
-use Rattle.std.proofs.Common.{arith}
-use Rattle.words.specs.Bit.{bit, of_bits}
-use Rattle.words.specs.Word.{merged, covers, lets, high}
-use Rattle.refusals.specs.Refusal.{write_refusal}
+use Rattle.std.specs.Prelude.{ℕ, ◌+◌, ◌*◌, ◌≡◌, List, [], ◌∷◌, get_or, replicate}
 use Rattle.vram.specs.declared.Cycle.{Cycle}
 use Rattle.vram.specs.declared.Cycle.TheVariants.{WordWrite, BlockWrite, LoadColour, LoadMask, ResetRefresh, FullTransfer, SplitTransfer, StopPoints}
-use Rattle.vram.specs.State.{ruled, fresh, with_colour}
-use Rattle.vram.specs.Memory.{put, puts}
+use Rattle.vram.specs.State.{fresh, with_colour}
 use Rattle.vram.specs.Board.{Board, board, effect}
-use Rattle.vram.specs.Refusal.{given, refusal}
-use Rattle.vram.specs.Step.{number, Engine, step_by, run_by}
-use Rattle.vram.specs.Kinds.{tag_of, loads}
-use Rattle.vram.specs.High.{Twins, KeepsTwins, spares}
-use Rattle.vram.proofs.HighLaws.{agree_at, effect_twins}
-use Rattle.list.specs.Tags.{word, known, len_of, cycle_of}
-use Rattle.list.specs.Splits.{split}
-use Rattle.list.specs.Fields.{whole as whole_field, field_of, size_of}
-use Rattle.list.specs.Open.{opens, open_by, open_after}
-use Rattle.list.specs.Meaning.{number_of, made_by, verdict, cycles, left_behind, first_bad, judged, verdict_of, run_call_by}
-use Rattle.list.specs.HighLaws.{given_twins, after_twins}
-use Rattle.marks_apart.specs.OneWord.{with_results}
+use Rattle.vram.specs.Step.{Engine}
+use Rattle.vram.specs.High.{Twins}
+use Rattle.list.specs.Tags.{word}
+use Rattle.list.specs.Meaning.{run_call_by}
 
 -- what the statement of the request says of a list that is run whole, asked of an engine
 abbrev pub MarksApart : Engine → Type 0

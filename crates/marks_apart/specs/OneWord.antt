@@ -1,9 +1,8 @@
 -- Words whose results are others, and the mark of a word after a list. Change request M-110. Assumes nothing.
-use Rattle.std.specs.Prelude.{ℕ, suc, ◌+◌, ◌*◌, ◌%◌, ◌≡◌, refl, List, [], ◌∷◌, map, get_or}
+use Rattle.std.specs.Prelude.{ℕ, suc, ◌+◌, ◌*◌, ◌%◌, List, [], ◌∷◌, get_or}
 use Rattle.words.specs.Word.{high}
 use Rattle.vram.specs.declared.Vram.{Vram}
 use Rattle.vram.specs.Board.{Board, board}
-use Rattle.vram.specs.High.{Agree, Twins}
 use Rattle.marks_apart.specs.Ways.{Way, ran}
 
 -- words with other results: each keeps its high byte, and the low byte of the word at place i is that of `results i`

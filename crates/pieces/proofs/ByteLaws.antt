@@ -6,7 +6,7 @@ use Rattle.list.specs.declared.Open.{Open}
 use Rattle.list.specs.Waits.{waits}
 use Rattle.list.proofs.WaitsLaws.{waits_few}
 use Rattle.pieces.specs.declared.Pieces.{Pieces}
-use Rattle.pieces.specs.Line.{line, refused, Port, port, limit, come, feed}
+use Rattle.pieces.specs.Line.{refused, Port, port, limit, come, feed}
 use Rattle.pieces.proofs.LineLaws.{come_waits, come_settled, feed_refused, feed_in, feed_over}
 use Rattle.pieces.specs.Pieces.{pad, pack, unpack}
 use Rattle.pieces.specs.PackLaws.{take_pad, set_pad, possible_going, Sound}

@@ -12,7 +12,7 @@ use Rattle.list.specs.Meaning.{bad, cycles, verdict_of, Outcome as ListOutcome}
 use Rattle.list.proofs.CallLaws.{verdict_judged}
 use Rattle.list.proofs.WaitsLaws.{waits_nil}
 use Rattle.pieces.specs.declared.Pieces.{Pieces}
-use Rattle.pieces.specs.Line.{Line, line, fresh, Port, port, limit, feed, piece, at_last}
+use Rattle.pieces.specs.Line.{Line, fresh, Port, port, limit, feed, piece, at_last}
 use Rattle.pieces.proofs.LineLaws.{so_far_none, refused_stays, last_kept}
 use Rattle.pieces.specs.Meant.{meant, passing, ended}
 use Rattle.pieces.proofs.MeantLaws.{bytes_meant, meant_given, meant_after}

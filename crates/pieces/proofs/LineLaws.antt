@@ -5,7 +5,7 @@ use Rattle.std.proofs.Math.ListN.{length}
 use Rattle.vram.specs.Board.{Board}
 use Rattle.list.specs.declared.Bad.{Bad}
 use Rattle.list.specs.declared.Open.{Open}
-use Rattle.list.specs.Fields.{Field, field_of, size_of, fields}
+use Rattle.list.specs.Fields.{Field, field_of, size_of}
 use Rattle.list.specs.Open.{open_by}
 use Rattle.list.specs.Meaning.{bad, left_behind}
 use Rattle.list.proofs.JudgeLaws.{bad_first, bad_later}

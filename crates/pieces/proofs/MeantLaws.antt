@@ -5,7 +5,7 @@ use Rattle.std.proofs.Common.{sym, ap, ap₂, ◌∙◌, append_assoc, append-ni
 use Rattle.std.proofs.lemmas.Bool.{eqb-false}
 use Rattle.vram.specs.declared.Cycle.{Cycle}
 use Rattle.vram.specs.Board.{Board}
-use Rattle.vram.specs.Step.{given_of, rows_of, number, step, run}
+use Rattle.vram.specs.Step.{given_of, rows_of, step, run}
 use Rattle.vram.proofs.KeptLaws.{step_loaded}
 use Rattle.vram.proofs.RuleLaws.{step_given}
 use Rattle.vram.proofs.CaseLaws.{run_none, run_next, step_rows, number_is}

@@ -1,6 +1,6 @@
 -- A list that is too long, in any cutting: its first 4,294,967,295 bytes decide, and where no field of theirs is refused the byte after them
 -- is. Change request M-109. Assumes nothing.
-use Rattle.std.specs.Prelude.{◌≡◌, refl, Bool, true, false, ◌||◌, ◌≢◌, ℕ, suc, ◌+◌, ◌≤◌, eqb, leb, length, get_or, take, drop}
+use Rattle.std.specs.Prelude.{◌≡◌, refl, Bool, true, false, ◌||◌, ◌≢◌, ℕ, suc, ◌≤◌, eqb, leb, length, get_or, take, drop}
 use Rattle.std.proofs.Common.{sym, ap, ◌∙◌, true≢false, arith, length-take, eqb-true, leb-true, leb-false, List, ◌∷◌, ◌++◌}
 use mathlib.Core.List.{flatten, foldl-append}
 use Rattle.std.proofs.Math.Seq.{split_at}

@@ -1,5 +1,5 @@
 -- Bytes that stand together: a whole field at their head goes at once, and so does one that no bytes can make. Assumes nothing.
-use Rattle.std.specs.Prelude.{◌≡◌, refl, Bool, true, false, List, [], ◌∷◌, ◌++◌, ◌≢◌, ℕ, suc, ◌+◌, ◌-◌, ◌≤◌, ltb, length, drop}
+use Rattle.std.specs.Prelude.{◌≡◌, refl, Bool, true, false, List, [], ◌∷◌, ◌++◌, ℕ, suc, ◌+◌, ◌-◌, ◌≤◌, ltb, length, drop}
 use Rattle.std.proofs.Common.{sym, ap, ◌∙◌, true≢false, append_assoc, append-nil, arith, length-append, ltb-true, ltb-false}
 use Rattle.vram.specs.Board.{Board}
 use Rattle.vram.specs.Step.{rows_of}

@@ -2,7 +2,7 @@
 use Rattle.std.specs.Prelude.{◌≡◌, Bool, true, false, List, ◌≢◌, ℕ}
 use Rattle.std.proofs.Math.Path.{refl, sym, ap, ap₂}
 use Rattle.std.proofs.Common.{◌∙◌}
-use Rattle.numbers.specs.Refuse.{refuse, leaves}
+use Rattle.numbers.specs.Refuse.{refuse}
 use Rattle.numbers.specs.RefuseLaws.{refuse_zero, leaves_made, leaves_before}
 use Rattle.vram.specs.Board.{Board}
 use Rattle.vram.specs.Step.{given_of}

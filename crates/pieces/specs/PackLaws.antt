@@ -12,7 +12,7 @@ use Rattle.list.specs.declared.Open.{Open}
 use Rattle.list.specs.Waits.{waits}
 use Rattle.list.proofs.WaitsLaws.{waits_few}
 use Rattle.pieces.specs.declared.Pieces.{Pieces}
-use Rattle.pieces.specs.Line.{Line, line, refused, limit}
+use Rattle.pieces.specs.Line.{Line, line, limit}
 use Rattle.pieces.specs.Pieces.{pad, pack, unpack, all_zero, before, is_none, going, stopped, possible, sound}
 
 -- ---- bytes, then zeros

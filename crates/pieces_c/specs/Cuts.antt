@@ -16,7 +16,7 @@ use Rattle.registers.specs.ListLaws.{list_excluded, list_handed, list_plain}
 use Rattle.pieces.specs.declared.Pieces.{Pieces as Below}
 use Rattle.pieces.specs.Line.{fresh, limit}
 use Rattle.pieces.specs.Pieces.{pack}
-use Rattle.pieces.specs.Calls.{gives, take_call as below_take}
+use Rattle.pieces.specs.Calls.{take_call as below_take}
 use Rattle.pieces.specs.Cutting.{ends as below_ends, cut_call as below_cut}
 use Rattle.pieces.proofs.CutLaws.{ends_none as below_none, ends_next as below_next}
 use Rattle.pieces.proofs.Cuts.{cut_verdict, cut_accepted}

@@ -1,5 +1,5 @@
 -- `pieces::end` meets its contract. Assumes nothing.
-use Rattle.std.proofs.Common.{sym, ◌∙◌, rules}
+use Rattle.std.proofs.Common.{sym, ◌∙◌}
 use Rattle.vram.specs.Board.{board}
 use Rattle.pieces.specs.Calls.{first_number}
 use Rattle.pieces.specs.PackLaws.{sound_count}

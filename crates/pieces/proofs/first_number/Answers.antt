@@ -1,5 +1,5 @@
 -- `pieces::first_number` meets its contract. Assumes nothing.
-use Rattle.std.proofs.Common.{ap₂, ◌∙◌, Bool, ℕ, rules}
+use Rattle.std.proofs.Common.{ap₂, ◌∙◌, Bool, ℕ}
 use Rattle.numbers.specs.Refuse.{refuse}
 use Rattle.pieces.proofs.first_number.Goals as goal
 

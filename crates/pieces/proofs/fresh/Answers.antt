@@ -1,5 +1,4 @@
 -- `pieces::fresh` meets its contract. Assumes nothing.
-use Rattle.std.proofs.Common.{rules}
 use Rattle.pieces.proofs.fresh.Goals as goal
 
 pub returns : goal.returns

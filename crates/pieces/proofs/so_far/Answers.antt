@@ -1,5 +1,5 @@
 -- `pieces::so_far` meets its contract. Assumes nothing.
-use Rattle.std.proofs.Common.{eq-eqb, ne_eqb, rules}
+use Rattle.std.proofs.Common.{eq-eqb, ne_eqb}
 use Rattle.pieces.specs.Line.{so_far}
 use Rattle.pieces.proofs.so_far.Goals as goal
 

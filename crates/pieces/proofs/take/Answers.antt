@@ -1,5 +1,5 @@
 -- `pieces::take` meets its contract. Assumes nothing.
-use Rattle.std.proofs.Common.{sym, ap, ◌∙◌, rules}
+use Rattle.std.proofs.Common.{sym, ap, ◌∙◌}
 use Rattle.vram.specs.Board.{board}
 use Rattle.pieces.specs.declared.Taken.{Taken}
 use Rattle.pieces.specs.Calls.{first_number, outcome}

@@ -1,5 +1,5 @@
 -- `pieces_c::linkshoar_pieces_fresh` meets its contract. Assumes nothing.
-use Rattle.std.proofs.Common.{ap, ◌∙◌, rules}
+use Rattle.std.proofs.Common.{ap, ◌∙◌}
 use Rattle.pieces_c.specs.Line.{handed_line}
 use Rattle.pieces_c.proofs.linkshoar_pieces_fresh.Goals as goal
 

@@ -1,5 +1,5 @@
 -- `pieces_c::linkshoar_pieces_take` meets its contract. Assumes nothing.
-use Rattle.std.proofs.Common.{sym, ap, ◌∙◌, rules}
+use Rattle.std.proofs.Common.{sym, ap, ◌∙◌}
 use Rattle.pieces_c.specs.declared.Taken.{Taken}
 use Rattle.pieces_c.specs.Calls.{answered}
 use Rattle.pieces_c.specs.CallLaws.{take_excluded, take_done}

@@ -1,5 +1,5 @@
 -- `pieces::bytes::come` meets its contract. Assumes nothing.
-use Rattle.std.proofs.Common.{sym, ◌∙◌, arith, rules}
+use Rattle.std.proofs.Common.{sym, ◌∙◌, arith}
 use Rattle.pieces.specs.Line.{limit}
 use Rattle.pieces.proofs.ByteLaws.{come_holds, come_moves}
 use Rattle.pieces.proofs.bytes.come.Goals as goal

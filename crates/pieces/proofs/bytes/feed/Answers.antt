@@ -1,5 +1,5 @@
 -- `pieces::bytes::feed` meets its contract. Assumes nothing.
-use Rattle.std.proofs.Common.{arith, rules}
+use Rattle.std.proofs.Common.{arith}
 use Rattle.pieces.specs.Line.{limit}
 use Rattle.pieces.proofs.ByteLaws.{fed_refused, fed_over, fed_few, fed_held, fed_come}
 use Rattle.pieces.proofs.bytes.feed.Goals as goal

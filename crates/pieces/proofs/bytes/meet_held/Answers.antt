@@ -1,5 +1,5 @@
 -- `pieces::bytes::meet_held` meets its contract. Assumes nothing.
-use Rattle.std.proofs.Common.{arith, length-take, rules}
+use Rattle.std.proofs.Common.{arith, length-take}
 use Rattle.pieces.proofs.bytes.meet_held.Goals as goal
 
 pub slice_bounds-meet-end : goal.slice_bounds-meet-end

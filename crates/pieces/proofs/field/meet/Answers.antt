@@ -1,5 +1,5 @@
 -- `pieces::field::meet` meets its contract. Assumes nothing.
-use Rattle.std.proofs.Common.{sym, ◌∙◌, rules}
+use Rattle.std.proofs.Common.{sym, ◌∙◌}
 use Rattle.pieces.proofs.TurnLaws.{meets_waits, meets_wrong, meets_refused, meets_run, whole_some}
 use Rattle.pieces.proofs.field.meet.Goals as goal
 

@@ -1,5 +1,5 @@
 -- `pieces::last::at_last` meets its contract. Assumes nothing.
-use Rattle.std.proofs.Common.{sym, ◌∙◌, rules}
+use Rattle.std.proofs.Common.{sym, ◌∙◌}
 use Rattle.pieces.proofs.LineLaws.{last_kept, last_cut, last_left}
 use Rattle.pieces.proofs.last.at_last.Goals as goal
 

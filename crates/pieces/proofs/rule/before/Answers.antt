@@ -1,5 +1,4 @@
 -- `pieces::rule::before` meets its contract. Assumes nothing.
-use Rattle.std.proofs.Common.{rules}
 use Rattle.pieces.proofs.rule.before.Goals as goal
 
 pub returns-in-At : goal.returns-in-At

@@ -1,5 +1,5 @@
 -- `pieces::rule::going` meets its contract. Assumes nothing.
-use Rattle.std.proofs.Common.{sym, arith, length-take, rules}
+use Rattle.std.proofs.Common.{sym, arith, length-take}
 use Rattle.pieces.specs.Line.{limit}
 use Rattle.pieces.specs.PackLaws.{going_over, going_is}
 use Rattle.pieces.proofs.rule.going.Goals as goal

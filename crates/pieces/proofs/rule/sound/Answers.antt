@@ -1,6 +1,5 @@
 -- `pieces::rule::sound` meets its contract. Assumes nothing.
-use Rattle.std.proofs.Common.{sym, ◌∙◌, rules}
-use borrow.Author.Tests.{not-true, not-false}
+use Rattle.std.proofs.Common.{sym, ◌∙◌}
 use Rattle.pieces.specs.PackLaws.{sound_spare, sound_going, sound_stopped}
 use Rattle.pieces.proofs.rule.sound.Goals as goal
 

@@ -1,5 +1,4 @@
 -- `pieces::rule::stopped` meets its contract. Assumes nothing.
-use Rattle.std.proofs.Common.{rules}
 use Rattle.pieces.proofs.rule.stopped.Goals as goal
 
 pub returns : goal.returns

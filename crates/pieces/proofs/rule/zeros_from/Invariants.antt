@@ -1,7 +1,6 @@
 -- `pieces::rule::zeros_from` meets its contract. Assumes nothing.
-use Rattle.std.proofs.Common.{◌≡◌, refl, sym, ◌∙◌, arith, ◌-◌, length, drop}
+use Rattle.std.proofs.Common.{◌≡◌, ◌-◌, length, drop}
 use Rattle.pieces.specs.Pieces.{all_zero}
-use Rattle.pieces.specs.PackLaws.{zero_end, zero_good, zero_bad}
 use Rattle.pieces.proofs.rule.zeros_from.Given as goal
 
 abbrev pub invariant-loop-i : goal.invariant-loop-i

@@ -1,5 +1,5 @@
 -- `pieces::whole::advance` meets its contract. Assumes nothing.
-use Rattle.std.proofs.Common.{arith, rules}
+use Rattle.std.proofs.Common.{arith}
 use Rattle.pieces.proofs.AlongLaws.{along_all, along_byte}
 use Rattle.pieces.proofs.whole.advance.Goals as goal
 

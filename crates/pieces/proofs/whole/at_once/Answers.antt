@@ -1,5 +1,4 @@
 -- `pieces::whole::at_once` meets its contract. Assumes nothing.
-use Rattle.std.proofs.Common.{rules}
 use Rattle.pieces.proofs.AlongLaws.{ready_possible, ready_along, along_none}
 use Rattle.pieces.proofs.whole.at_once.Goals as goal
 

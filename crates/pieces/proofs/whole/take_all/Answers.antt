@@ -1,8 +1,6 @@
 -- `pieces::whole::take_all` meets its contract: each turn goes some of the way. Assumes nothing.
-use Rattle.std.proofs.Common.{◌≡◌, refl, ◌∙◌, arith, ◌-◌, length, length-drop, rules}
+use Rattle.std.proofs.Common.{refl, ◌∙◌, arith, length-drop}
 use Rattle.numbers.specs.BufferLaws.{tail_part}
-use Rattle.vram.specs.Board.{board}
-use Rattle.pieces.specs.Turns.{Along}
 use Rattle.pieces.proofs.AlongLaws.{along_none, along_on, along_end}
 use Rattle.pieces.proofs.whole.take_all.Goals as goal
 

@@ -1,9 +1,7 @@
 -- `pieces::whole::take_all` meets its contract: each turn goes some of the way. Assumes nothing.
-use Rattle.std.proofs.Common.{◌≡◌, refl, ◌∙◌, arith, ◌-◌, length, length-drop, rules}
-use Rattle.numbers.specs.BufferLaws.{tail_part}
+use Rattle.std.proofs.Common.{◌≡◌, ◌-◌, length}
 use Rattle.vram.specs.Board.{board}
 use Rattle.pieces.specs.Turns.{Along}
-use Rattle.pieces.proofs.AlongLaws.{along_none, along_on, along_end}
 use Rattle.pieces.proofs.whole.take_all.Given as goal
 
 abbrev pub invariant-loop-used : goal.invariant-loop-used

@@ -1,12 +1,9 @@
 -- `pieces::whole::whole_fields` meets its contract: one turn of the loop is one field. Assumes nothing.
-use Rattle.std.proofs.Common.{◌≡◌, refl, sym, ap, ◌∙◌, true, [], arith, ◌-◌, ◌≤◌, length, drop, rules}
-use Rattle.numbers.specs.BufferLaws.{tail_part}
-use Rattle.vram.specs.declared.Vram.{Vram}
+use Rattle.std.proofs.Common.{◌≡◌, true, [], ◌-◌, ◌≤◌, length, drop}
 use Rattle.vram.specs.Board.{board}
 use Rattle.vram.specs.Step.{given_of}
-use Rattle.pieces.specs.Line.{line, port, limit, piece}
+use Rattle.pieces.specs.Line.{line, port, piece}
 use Rattle.pieces.specs.Pieces.{possible}
-use Rattle.pieces.proofs.AlongLaws.{come_along, turn_inside, stay_possible, stay_same, turn_possible, turn_same, turn_some, turn_again}
 use Rattle.pieces.proofs.whole.whole_fields.Given as goal
 
 abbrev pub invariant-loop-at : goal.invariant-loop-at

@@ -1,5 +1,4 @@
 -- `pieces_c::line::hand_line` meets its contract. Assumes nothing.
-use Rattle.std.proofs.Common.{rules}
 use Rattle.pieces_c.specs.Line.{handed_line}
 use Rattle.pieces_c.proofs.line.hand_line.Goals as goal
 

@@ -1,5 +1,4 @@
 -- `pieces_c::line::hand_taken` meets its contract. Assumes nothing.
-use Rattle.std.proofs.Common.{rules}
 use Rattle.pieces_c.proofs.line.hand_taken.Goals as goal
 
 pub returns : goal.returns
