@@ -43,6 +43,6 @@ holds() {
 
 holds "$page" || { figures "$page" | diff - "$stored"; figures "$page" | diff - "$other"; echo "$page does not hold"; exit 1; }
 changed "$page" 's/becomes 8152/becomes 8153/' 's/^after  \(.*\)0$/after  \11/' '/^8100 becomes/d' 's/let quad = b \/ 4;/let quad = b \/ 3;/' \
-    's/while j < 4 {/while j < 3 {/' 's/        j += 1;/        b += 1;/' 's/^    if persistent { register } else { given }$/    old/' \
-    's/has(columns, 4 \* quad + j)/has(strobes as u16, flag)/'
+    's/for j in 0\.\.4 {/for j in 0..3 {/' 's/let left = bits_left(columns, j, mask);/let left = bits_left(columns, b, mask);/' \
+    's/^    if persistent { register } else { given }$/    old/' 's/has(columns, 4 \* quad + j)/has(strobes as u16, flag)/'
 echo "the figures and lines of $page hold, and none of $tried changed pages does"

@@ -1,13 +1,11 @@
 -- Pixels, refused writes and changed tables between the low part and the high part: the low part waits, and the word is stored all the
 -- same. Assumes nothing.
-use Rattle.std.specs.Prelude.{◌≡◌, refl, true, List, [], ◌∷◌, ◌≢◌, ℕ, length, set}
+use Rattle.std.specs.Prelude.{◌≡◌, refl, true, List, [], ◌∷◌, ◌≢◌, ℕ, length, set, Option}
 use Rattle.std.proofs.Common.{ap, ◌∙◌}
-use Rattle.colours.specs.declared.Coloured.{Coloured}
-use Rattle.colours.specs.declared.Waiting.{Waiting}
-use Rattle.colours.specs.declared.Waiting.TheVariants.{None, Low}
+use Rattle.std.specs.Prelude.Option.{None, Some}
 use Rattle.colours.specs.Table.{joined}
 use Rattle.colours.specs.State.{with_waiting, waits, low_waiting, ruled}
-use Rattle.colours.specs.Calls.{coloured, Outcome, outcome, write_call, write_low_call, write_high_call}
+use Rattle.colours.specs.Calls.{Coloured, coloured, Outcome, outcome, write_call, write_low_call, write_high_call}
 use Rattle.colours.proofs.CallLaws.{Reached, write_refused, low_refused, high_refused, low_makes, high_makes}
 use Rattle.colours.proofs.StateLaws.{pixel_waiting}
 use Rattle.colours.specs.Session.{Board, Event, Write, WriteLow, WriteHigh, Pixel, Lend, after, session}
@@ -43,7 +41,7 @@ module _ (es : List Event) (b : Board) (low : ℕ) (n : NoneWritten es (after (W
   abbrev pub there : Board
   there = session es (after (WriteLow low) b)
 
-  there_waits : there.state.waiting ≡ Low low
+  there_waits : there.state.waiting ≡ Some low
   there_waits =
       low_waits es (after (WriteLow low) b) n ∙ ap (λ (x : Coloured). x.state.waiting) (low_makes b.state low r)
 
@@ -55,5 +53,5 @@ module _ (es : List Event) (b : Board) (low : ℕ) (n : NoneWritten es (after (W
       ≡ outcome (coloured 0 (with_waiting there.state None)) (set there.table address (joined low high))
   parts_apart address high g =
       high_makes there.state there.table address high (record { rule = there_ruled; reached = g }) (ap waits there_waits)
-      ∙ ap (λ (w : Waiting). outcome (coloured 0 (with_waiting there.state None)) (set there.table address (joined (low_waiting w) high)))
+      ∙ ap (λ (w : Option ℕ). outcome (coloured 0 (with_waiting there.state None)) (set there.table address (joined (low_waiting w) high)))
       there_waits

@@ -1,4 +1,4 @@
--- Which calls are accepted, and the ways out as the code has them: a call is refused and changes nothing, or is done. Assumes nothing.
+-- Which calls are accepted, and the two ways out: a call is refused and changes nothing, or is done. Assumes nothing.
 use Rattle.std.specs.Prelude.{◌≡◌, refl, Bool, false, ◌&&◌, cond, List, ◌≢◌, ℕ, ◌≤◌, eqb, length, set}
 use Rattle.std.proofs.Common.{leb-true, ne_eqb, le-leb}
 use Rattle.std.proofs.Math.Path.{ap}
@@ -8,15 +8,13 @@ use Rattle.numbers.specs.Between.{both}
 use Rattle.numbers.specs.Refuse.{leaves}
 use Rattle.numbers.specs.RefuseLaws.{refuse_zero}
 use Rattle.colours.specs.declared.Colours.{Colours}
-use Rattle.colours.specs.declared.Waiting.TheVariants.{None, Low}
+use Rattle.std.specs.Prelude.Option.{None, Some}
 use Rattle.colours.specs.declared.Inputs.{Inputs}
-use Rattle.colours.specs.declared.Asked.{Asked}
 use Rattle.colours.specs.declared.Word.{Word}
-use Rattle.colours.specs.declared.Emitted.{Emitted}
 use Rattle.colours.specs.Table.{word_at, low_of, high_of, joined}
 use Rattle.colours.specs.Output.{zeros}
 use Rattle.colours.specs.State.{with_waiting, moved, waits, low_waiting, ruled}
-use Rattle.colours.specs.Calls.{table_refusal, write_refusal, low_refusal, high_refusal, read_refusal, pixel_refusal, coloured, outcome, written, write_call, write_low_call, write_high_call, worded, byted, read_call, read_low_call, read_high_call, emitted, asks_at, pixel_call, state_refusal, asked_for, ask_call}
+use Rattle.colours.specs.Calls.{Asked, Emitted, table_refusal, write_refusal, low_refusal, high_refusal, read_refusal, pixel_refusal, coloured, outcome, written, write_call, write_low_call, write_high_call, worded, byted, read_call, read_low_call, read_high_call, emitted, asks_at, pixel_call, state_refusal, asked_for, ask_call}
 use Rattle.colours.proofs.NumberLaws.{table_0, table_zero, low_accepted}
 
 -- ---- which calls are accepted: these, and every one of them
@@ -78,7 +76,7 @@ module _ (s : Colours) (words address : ℕ) where
   unfolding pixel_refusal
   pixel_accepted r = rw r.rule (read_accepted words address r.reached)
 
--- ---- the two ways out, as the code has them: n is its number, k the definition's
+-- ---- the two ways out of a call, for a number n that is the definition's, k
 
 module _ (s : Colours) (t : List ℕ) (n k : ℕ) (s' : Colours) (t' : List ℕ) (e : n ≡ k) where
   pub written_refused : n ≢ 0 → outcome (coloured n s) t ≡ written k s t s' t'
@@ -142,7 +140,7 @@ module _ (t : List ℕ) (address : ℕ) where
 
 -- ---- what is accepted is done
 
-pub low_makes : (s : Colours) (low : ℕ) → ruled s ≡ true → write_low_call s low ≡ coloured 0 (with_waiting s (Low low))
+pub low_makes : (s : Colours) (low : ℕ) → ruled s ≡ true → write_low_call s low ≡ coloured 0 (with_waiting s (Some low))
 unfolding write_low_call
 low_makes s low r = rw (low_accepted s r)
 

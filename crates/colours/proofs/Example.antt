@@ -1,9 +1,8 @@
 -- A small session as a table, each row computed from the definitions: parts that are refused and stored, and pixels with writes between.
 -- Assumes nothing.
-use Rattle.std.specs.Prelude.{ℕ, ◌≡◌, refl, Bool, true, false, List, [], ◌∷◌, replicate}
+use Rattle.std.specs.Prelude.{ℕ, ◌≡◌, refl, Bool, true, false, List, [], ◌∷◌, replicate, Option}
 use Rattle.words.specs.Bit.{bit}
-use Rattle.colours.specs.declared.Waiting.{Waiting}
-use Rattle.colours.specs.declared.Waiting.TheVariants.{None, Low}
+use Rattle.std.specs.Prelude.Option.{None, Some}
 use Rattle.colours.specs.declared.Output.{Output}
 use Rattle.colours.specs.declared.Output.TheVariants.{Sync, Blank, Overlay, Colour}
 use Rattle.colours.specs.declared.Inputs.{Inputs}
@@ -14,9 +13,9 @@ use Rattle.colours.specs.Session.{Board, board, Write, WriteLow, WriteHigh, Pixe
 
 -- a call, the number that it gives, and the low part that waits then; or a pixel, its number and what comes out
 pub data Row : Type 0 where
-  write : (address value number : ℕ) → Waiting → Row
-  low : (part number : ℕ) → Waiting → Row
-  high : (address part number : ℕ) → Waiting → Row
+  write : (address value number : ℕ) → Option ℕ → Row
+  low : (part number : ℕ) → Option ℕ → Row
+  high : (address part number : ℕ) → Option ℕ → Row
   pixel : Inputs → (number : ℕ) → Output → Row
 
 -- each row follows from those above
@@ -52,15 +51,15 @@ inputs address sync blank overlay blink =
 abbrev table : List Row
 table =
     high 1 243 22 None ∷
-    low 7 0 (Low 7) ∷
-    low 90 0 (Low 90) ∷
-    write 1 8192 21 (Low 90) ∷
-    high 64 243 21 (Low 90) ∷
+    low 7 0 (Some 7) ∷
+    low 90 0 (Some 90) ∷
+    write 1 8192 21 (Some 90) ∷
+    high 64 243 21 (Some 90) ∷
     high 1 243 0 None ∷
     pixel (inputs 1 true true true true) 0 Blank ∷
     pixel (inputs 1 false false false false) 0 Blank ∷
     pixel (inputs 1 false false false true) 0 Blank ∷
-    low 1 0 (Low 1) ∷
+    low 1 0 (Some 1) ∷
     pixel (inputs 64 false true false false) 21 (Colour 0 0 0) ∷
     pixel (inputs 1 false false true true) 0 Sync ∷
     write 1 0 0 None ∷

@@ -2,9 +2,8 @@
 use Rattle.std.specs.Prelude.{◌≡◌, refl, true, List, [], ◌∷◌, map, length}
 use Rattle.std.proofs.Common.{ap}
 use Rattle.colours.specs.declared.Inputs.{Inputs}
-use Rattle.colours.specs.declared.Emitted.{Emitted}
 use Rattle.colours.specs.State.{ruled}
-use Rattle.colours.specs.Calls.{pixel_call}
+use Rattle.colours.specs.Calls.{Emitted, pixel_call}
 use Rattle.colours.proofs.CallLaws.{Reached, pixel_makes}
 use Rattle.colours.proofs.StateLaws.{write_ruled, low_ruled, high_ruled, pixel_ruled}
 use Rattle.colours.specs.Session.{Board, Event, Write, WriteLow, WriteHigh, Pixel, Lend, after, session, Passed, passed}

@@ -1,11 +1,10 @@
 -- The state's rule is kept by every call, and what each call leaves of the low part and of the pipe. Assumes nothing.
-use Rattle.std.specs.Prelude.{◌≡◌, true, ◌&&◌, List, ℕ, length}
+use Rattle.std.specs.Prelude.{◌≡◌, true, ◌&&◌, List, ℕ, length, Option}
 use Rattle.std.proofs.Math.Path.{refl}
 use Rattle.numbers.specs.Between.{both}
 use Rattle.numbers.specs.RefuseLaws.{leaves_holds}
 use Rattle.colours.specs.declared.Colours.{Colours}
-use Rattle.colours.specs.declared.Waiting.{Waiting}
-use Rattle.colours.specs.declared.Waiting.TheVariants.{None, Low}
+use Rattle.std.specs.Prelude.Option.{None, Some}
 use Rattle.colours.specs.declared.Inputs.{Inputs}
 use Rattle.colours.specs.Table.{word_at}
 use Rattle.colours.specs.OutputLaws.{asks_ok}
@@ -36,7 +35,7 @@ unfolding ruled
 fresh_ruled = refl
 
 -- the rule asks nothing of the low part
-pub waiting_ruled : (s : Colours) (w : Waiting) → ruled (with_waiting s w) ≡ ruled s
+pub waiting_ruled : (s : Colours) (w : Option ℕ) → ruled (with_waiting s w) ≡ ruled s
 unfolding ruled
 waiting_ruled s w = refl
 
@@ -49,7 +48,7 @@ moved_ruled s t i e =
 pub low_ruled : (s : Colours) (low : ℕ) → ruled s ≡ true → ruled (write_low_call s low).state ≡ true
 unfolding write_low_call
 low_ruled s low r =
-    leaves_holds (λ (x : Colours). ruled x ≡ true) (low_refusal s) s (with_waiting s (Low low)) r (rw (waiting_ruled s (Low low)) r)
+    leaves_holds (λ (x : Colours). ruled x ≡ true) (low_refusal s) s (with_waiting s (Some low)) r (rw (waiting_ruled s (Some low)) r)
 
 module _ (s : Colours) (t : List ℕ) (r : ruled s ≡ true) where
   pub write_ruled : (address value : ℕ) → ruled (write_call s t address value).answer.state ≡ true
@@ -71,7 +70,7 @@ module _ (s : Colours) (t : List ℕ) (r : ruled s ≡ true) where
 
 pub low_pipe : (s : Colours) (low : ℕ) → pipe (write_low_call s low).state ≡ pipe s
 unfolding write_low_call
-low_pipe s low = leaves_holds (λ (x : Colours). pipe x ≡ pipe s) (low_refusal s) s (with_waiting s (Low low)) refl refl
+low_pipe s low = leaves_holds (λ (x : Colours). pipe x ≡ pipe s) (low_refusal s) s (with_waiting s (Some low)) refl refl
 
 module _ (s : Colours) (t : List ℕ) where
   pub write_pipe : (address value : ℕ) → pipe (write_call s t address value).answer.state ≡ pipe s

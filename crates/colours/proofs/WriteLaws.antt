@@ -1,13 +1,11 @@
 -- The two ways to write agree. Assumes nothing.
-use Rattle.std.specs.Prelude.{◌≡◌, refl, Bool, true, false, List, ℕ, ◌%◌, ◌≤◌, ◌<◌, length}
+use Rattle.std.specs.Prelude.{◌≡◌, refl, Bool, true, false, List, ℕ, ◌%◌, ◌≤◌, ◌<◌, length, Option}
 use Rattle.std.proofs.Common.{sym, ap, ◌∙◌, arith}
 use Rattle.colours.specs.declared.Colours.{Colours}
-use Rattle.colours.specs.declared.Coloured.{Coloured}
-use Rattle.colours.specs.declared.Waiting.{Waiting}
-use Rattle.colours.specs.declared.Waiting.TheVariants.{None, Low}
+use Rattle.std.specs.Prelude.Option.{None, Some}
 use Rattle.colours.specs.Table.{low_of, high_of, joined}
 use Rattle.colours.specs.State.{with_waiting, waits, ruled}
-use Rattle.colours.specs.Calls.{low_refusal, Outcome, write_call, write_low_call, write_high_call}
+use Rattle.colours.specs.Calls.{Coloured, low_refusal, Outcome, write_call, write_low_call, write_high_call}
 use Rattle.colours.proofs.CallLaws.{Reached, Ready, write_makes, low_makes, high_makes}
 use Rattle.colours.proofs.NumberLaws.{high_22}
 use Rattle.colours.proofs.StateLaws.{waiting_ruled}
@@ -23,7 +21,7 @@ joined_small low high h = omega arith
 -- ---- the low part, then the high part
 
 -- a state in which another low part waits is as ready
-ready_waiting : (s : Colours) (words address : ℕ) (w : Waiting) → Ready s words address → Ready (with_waiting s w) words address
+ready_waiting : (s : Colours) (words address : ℕ) (w : Option ℕ) → Ready s words address → Ready (with_waiting s w) words address
 ready_waiting s words address w r = record { rule = waiting_ruled s w ∙ r.rule; reached = r.reached }
 
 module _ (s : Colours) (t : List ℕ) (address : ℕ) (r : Ready s (length t) address) where
@@ -32,7 +30,7 @@ module _ (s : Colours) (t : List ℕ) (address : ℕ) (r : Ready s (length t) ad
       → write_high_call (write_low_call s low).state t address high ≡ write_call s t address (joined low high)
   parts_agree low high h =
       ap (λ (x : Coloured). write_high_call x.state t address high) (low_makes s low r.rule)
-      ∙ high_makes (with_waiting s (Low low)) t address high (ready_waiting s (length t) address (Low low) r) refl
+      ∙ high_makes (with_waiting s (Some low)) t address high (ready_waiting s (length t) address (Some low) r) refl
       ∙ sym (write_makes s t address (joined low high) r (joined_small low high h))
 
   -- and every 16-bit write can be made so
@@ -70,5 +68,5 @@ unfolding write_low_call low_refusal
 low_replaces s low low' = go (ruled s) refl
   where
     go : (b : Bool) → ruled s ≡ b → write_low_call (write_low_call s low).state low' ≡ write_low_call s low'
-    go true e = rw (e, waiting_ruled s (Low low), e)
+    go true e = rw (e, waiting_ruled s (Some low), e)
     go false e = rw (e, e)

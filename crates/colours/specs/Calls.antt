@@ -1,14 +1,13 @@
 -- What each call answers and leaves, for every input: change request M-112. A refusal answers zeros besides and changes nothing.
 -- Assumes nothing.
-use Rattle.std.specs.Prelude.{ℕ, Bool, true, ◌&&◌, List, eqb, leb, length, set}
+use Rattle.std.specs.Prelude.{ℕ, Bool, true, ◌&&◌, List, Result, eqb, leb, length, set}
+use Rattle.numbers.specs.declared.Refusal.{Refusal}
+use Rattle.numbers.specs.Refusal.{given_back, left_by}
 use Rattle.numbers.specs.Refuse.{refuse, leaves}
 use Rattle.colours.specs.declared.Colours.{Colours}
-use Rattle.colours.specs.declared.Waiting.TheVariants.{None, Low}
+use Rattle.std.specs.Prelude.Option.{None, Some}
 use Rattle.colours.specs.declared.Output.{Output}
 use Rattle.colours.specs.declared.Inputs.{Inputs}
-use Rattle.colours.specs.declared.Asked.{Asked}
-use Rattle.colours.specs.declared.Coloured.{Coloured}
-use Rattle.colours.specs.declared.Emitted.{Emitted}
 use Rattle.colours.specs.declared.Word.{Word}
 use Rattle.colours.specs.declared.Byte.{Byte}
 use Rattle.colours.specs.Table.{word_at, low_of, high_of, joined}
@@ -43,8 +42,17 @@ pixel_refusal s words address = state_refusal s (read_refusal words address)
 
 -- ---- writes
 
+-- the state after a write, and the number given back
+pub record Coloured : Type 0 where
+  pub state : Colours
+  pub number : ℕ
+
 abbrev pub coloured : ℕ → Colours → Coloured
 coloured n s = record { state = s; number = n }
+
+-- of the answer to a write: refused, the state is that from before
+abbrev pub coloured_by : Colours → Result Colours Refusal → Coloured
+coloured_by before answer = coloured (given_back answer) (left_by before answer)
 
 -- what is answered, and the table afterwards
 pub record Outcome : Type 0 where
@@ -64,7 +72,7 @@ write_call s t address value = written (write_refusal s (length t) address value
 
 -- the low part waits, in the place of one that waited
 unfoldable pub write_low_call : Colours → ℕ → Coloured
-write_low_call s low = coloured (low_refusal s) (leaves (low_refusal s) s (with_waiting s (Low low)))
+write_low_call s low = coloured (low_refusal s) (leaves (low_refusal s) s (with_waiting s (Some low)))
 
 -- the high part, with the low one that waits, is stored at the address given with it; nothing waits then
 unfoldable pub write_high_call : Colours → List ℕ → ℕ → ℕ → Outcome
@@ -75,6 +83,10 @@ write_high_call s t address high =
 
 abbrev pub worded : ℕ → ℕ → Word
 worded n word = record { number = n; word = word }
+
+-- of the answer to a read: refused, the word is 0
+abbrev pub read_by : Result ℕ Refusal → Word
+read_by answer = worded (given_back answer) (left_by 0 answer)
 
 unfoldable pub read_call : List ℕ → ℕ → Word
 read_call t address = let n = read_refusal (length t) address in worded n (leaves n 0 (word_at t address))
@@ -95,14 +107,33 @@ read_high_call t address = let r = read_call t address in byted r.number (high_o
 abbrev pub asks_at : List ℕ → Inputs → Output
 asks_at t i = asks i (word_at t i.address)
 
+-- what the inputs of a pixel ask for, and the number given back
+pub record Asked : Type 0 where
+  pub number : ℕ
+  pub output : Output
+
 abbrev pub asked_for : ℕ → Output → Asked
 asked_for n out = record { number = n; output = out }
+
+-- of the answer to what is asked for: refused, zeros
+abbrev pub asked_by : Result Output Refusal → Asked
+asked_by answer = asked_for (given_back answer) (left_by zeros answer)
 
 unfoldable pub ask_call : List ℕ → Inputs → Asked
 ask_call t i = let n = read_refusal (length t) i.address in asked_for n (leaves n zeros (asks_at t i))
 
+-- the state after a pixel, what came out, and the number given back
+pub record Emitted : Type 0 where
+  pub state : Colours
+  pub output : Output
+  pub number : ℕ
+
 abbrev pub emitted : ℕ → Colours → Output → Emitted
 emitted n s out = record { state = s; output = out; number = n }
+
+-- of the answer to a pixel: refused, the state from before, and zeros
+abbrev pub shown_by : Colours → Result (Colours × Output) Refusal → Emitted
+shown_by before answer = let left = left_by (before, zeros) answer in emitted (given_back answer) left.0 left.1
 
 -- the first on its way comes out, and what is asked for enters the pipe
 unfoldable pub pixel_call : Colours → List ℕ → Inputs → Emitted

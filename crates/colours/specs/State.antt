@@ -1,13 +1,12 @@
 -- The low part that waits, and the three outputs on their way: change request M-112. Assumes nothing.
-use Rattle.std.specs.Prelude.{ℕ, Bool, true, false, ◌&&◌, List, [], ◌∷◌, leb}
+use Rattle.std.specs.Prelude.{ℕ, Bool, true, false, ◌&&◌, List, [], ◌∷◌, leb, Option}
 use Rattle.colours.specs.declared.Colours.{Colours}
-use Rattle.colours.specs.declared.Waiting.{Waiting}
-use Rattle.colours.specs.declared.Waiting.TheVariants.{None, Low}
+use Rattle.std.specs.Prelude.Option.{None, Some}
 use Rattle.colours.specs.declared.Output.{Output}
 use Rattle.colours.specs.declared.Output.TheVariants.{Sync, Blank, Overlay, Colour}
 
 -- every field, in the order of the struct
-abbrev pub colours : Waiting → Output → Output → Output → Colours
+abbrev pub colours : Option ℕ → Output → Output → Output → Colours
 colours waiting first second third = record { waiting = waiting; first = first; second = second; third = third }
 
 -- nothing waits, and three outputs at blank level are on their way
@@ -16,7 +15,7 @@ fresh = colours None Blank Blank Blank
 
 -- ---- a state with one thing changed
 
-abbrev pub with_waiting : Colours → Waiting → Colours
+abbrev pub with_waiting : Colours → Option ℕ → Colours
 with_waiting s w = colours w s.first s.second s.third
 
 -- the pipe one clock on: an output enters behind the two that stay
@@ -29,14 +28,14 @@ pipe s = s.first ∷ s.second ∷ s.third ∷ []
 
 -- ---- the low part
 
-abbrev pub waits : Waiting → Bool
+abbrev pub waits : Option ℕ → Bool
 waits None = false
-waits (Low low) = true
+waits (Some low) = true
 
 -- 0 where none waits
-abbrev pub low_waiting : Waiting → ℕ
+abbrev pub low_waiting : Option ℕ → ℕ
 low_waiting None = 0
-low_waiting (Low low) = low
+low_waiting (Some low) = low
 
 -- ---- the states that the rules allow
 

@@ -1,23 +1,23 @@
 // The table's words, and what refuses an access to them.
-ghost use Rattle.std.specs.Prelude.{◌≡◌, ◌≤◌, length};
-ghost use Rattle.colours.specs.Table.{word_at};
-ghost use Rattle.colours.specs.Calls.{table_refusal};
+ghost use Rattle.std.specs.Prelude.{◌≡◌, true};
+ghost use Rattle.numbers.specs.Refusal.{given_back};
+ghost use Rattle.colours.specs.Calls.{table_refusal, read_by, read_call};
 
-use numbers::refuse;
+use numbers::{Refusal, refuse};
 
-// What refuses an access: 3 for the table, 21 for address and data, 22 where a low part is needed and none waits.
-pub(crate) fn table_refusal(words: usize, within: bool, waits: bool) -> u32
-    ensures { result ≡ table_refusal words within waits }
+// What refuses an access: 3 for the table, 21 for address and data.
+pub(crate) fn table_refusal(words: usize, within: bool) -> Result<(), Refusal>
+    ensures { given_back result ≡ table_refusal words within true }
 {
-    let n = refuse(waits, numbers::NO_LOW_PART, numbers::DONE);
-    let n = refuse(within, numbers::ADDRESS_OR_DATA_OVER, n);
-    refuse(words == 64, numbers::REGISTER_LENGTH, n)
+    refuse(words == 64, Refusal::RegisterLength)?;
+    refuse(within, Refusal::AddressOrDataOver)
 }
 
 // The word at an address: thirteen bits are read.
-pub(crate) fn word_at(table: &[u16], address: u32) -> u16
-    requires { (length table.now ≡ 64) × (address ≤ 63) }
-    ensures { result ≡ word_at table.now address }
+#[tactic(auto, unfolding(crate::specs::Calls::read_refusal, crate::specs::Calls::read_call))]
+pub(crate) fn word_at(table: &[u16], address: u32) -> Result<u16, Refusal>
+    ensures { read_by result ≡ read_call table.now address }
 {
-    table[address as usize] % 8192
+    table_refusal(table.len(), address <= 63)?;
+    Ok(table[address as usize] % 8192)
 }

@@ -29,7 +29,7 @@ mod state;
 mod writes;
 
 // The level of one gun: a step of the colour, or a name. Black is reference black, white peak white, brighter than step 15.
-#[derive(Clone, Copy)]
+#[derive(Clone, Copy, Debug, PartialEq, Eq)]
 pub enum Level {
     Step(u8),
     Sync,
@@ -39,7 +39,7 @@ pub enum Level {
 }
 
 // The levels of the three guns.
-#[derive(Clone, Copy)]
+#[derive(Clone, Copy, Debug, PartialEq, Eq)]
 pub struct Levels {
     pub red: Level,
     pub green: Level,
@@ -48,7 +48,7 @@ pub struct Levels {
 
 // What comes out for a pixel: sync, blank, an overlay with each gun on or off, or a colour of three steps. All but a step over 15 is what a
 // pixel can make.
-#[derive(Clone, Copy)]
+#[derive(Clone, Copy, Debug, PartialEq, Eq)]
 pub enum Output {
     Sync,
     Blank,
@@ -56,25 +56,18 @@ pub enum Output {
     Colour { red: u8, green: u8, blue: u8 },
 }
 
-// The low eight bits of a word, kept until the high five come.
-#[derive(Clone, Copy)]
-pub enum Waiting {
-    None,
-    Low(u8),
-}
-
-// The low part that waits, and the three outputs on their way: `first` is the next to come out. Every field is public: a state with a step
-// over 15, which the rules exclude, can be built, and is refused.
-#[derive(Clone, Copy)]
+// The low part of a word that waits for its high part, and the three outputs on their way: `first` is the next to come out. Every field is
+// public: a state with a step over 15, which the rules exclude, can be built, and is refused.
+#[derive(Clone, Copy, Debug, PartialEq, Eq)]
 pub struct Colours {
-    pub waiting: Waiting,
+    pub waiting: Option<u8>,
     pub first: Output,
     pub second: Output,
     pub third: Output,
 }
 
 // The inputs of a pixel: `horizontal` and `vertical` are the two syncs, `red`, `green` and `blue` the guns that an overlay has on.
-#[derive(Clone, Copy)]
+#[derive(Clone, Copy, Debug, PartialEq, Eq)]
 pub struct Inputs {
     pub address: u32,
     pub horizontal: bool,
@@ -87,31 +80,9 @@ pub struct Inputs {
     pub blink: bool,
 }
 
-// What the inputs of a pixel ask for, and the number given back.
-#[derive(Clone, Copy)]
-pub struct Asked {
-    pub number: u32,
-    pub output: Output,
-}
-
-// The state after a write, and the number given back.
-#[derive(Clone, Copy)]
-pub struct Coloured {
-    pub state: Colours,
-    pub number: u32,
-}
-
-// The state after a pixel, what came out, and the number given back.
-#[derive(Clone, Copy)]
-pub struct Emitted {
-    pub state: Colours,
-    pub output: Output,
-    pub number: u32,
-}
-
 // What a 16-bit read answers: the number given back, and the word. In C it is `linkshoar_word`.
 #[repr(C)]
-#[derive(Clone, Copy)]
+#[derive(Clone, Copy, Debug, PartialEq, Eq)]
 pub struct Word {
     pub number: u32,
     pub word: u16,
@@ -119,7 +90,7 @@ pub struct Word {
 
 // What an 8-bit read answers: the number given back, and the part. In C it is `linkshoar_byte`.
 #[repr(C)]
-#[derive(Clone, Copy)]
+#[derive(Clone, Copy, Debug, PartialEq, Eq)]
 pub struct Byte {
     pub number: u32,
     pub byte: u8,
@@ -130,7 +101,7 @@ impl Colours {
         ensures { result ≡ fresh }
     {
         Colours {
-            waiting: Waiting::None,
+            waiting: None,
             first: Output::Blank,
             second: Output::Blank,
             third: Output::Blank,

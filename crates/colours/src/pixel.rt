@@ -1,22 +1,26 @@
 // One pixel clock: inputs enter, and what entered three clocks before comes out.
 ghost use Rattle.std.specs.Prelude.{◌≡◌};
-ghost use Rattle.colours.specs.Calls.{pixel_call};
+ghost use Rattle.colours.specs.Calls.{shown_by, pixel_call};
 
 use crate::asks::ask;
-use crate::{Colours, Emitted, Inputs, Output};
+use crate::{Colours, Inputs, Output};
+use numbers::Refusal;
 
 impl Colours {
-    // The table is read as the inputs enter. A refused pixel answers zeros and does not move the pipe.
-    pub fn pixel(self, table: &[u16], inputs: Inputs) -> Emitted
-        ensures { result ≡ pixel_call self table.now inputs }
+    // The table is read as the inputs enter, and the output beside the new state is the one that comes out. A refused pixel does not move
+    // the pipe.
+    #[tactic(auto, unfolding(crate::specs::Calls::pixel_call, crate::specs::Calls::pixel_refusal, crate::specs::Calls::ask_call))]
+    pub fn pixel(self, table: &[u16], inputs: Inputs) -> Result<(Colours, Output), Refusal>
+        ensures { shown_by self result ≡ pixel_call self table.now inputs }
     {
-        let asked = ask(table, inputs);
-        let n = self.refusal(asked.number);
-        if n != numbers::DONE {
-            return self.emitted(n, Output::zeros());
-        }
-        let output = asked.output;
-        let first = self.first;
-        self.moved(output).emitted(numbers::DONE, first)
+        self.refusal()?;
+        let third = ask(table, inputs)?;
+        let state = Colours {
+            first: self.second,
+            second: self.third,
+            third,
+            ..self
+        };
+        Ok((state, self.first))
     }
 }

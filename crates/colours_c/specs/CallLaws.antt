@@ -1,14 +1,18 @@
 -- The ways out of a call that takes the state from C; 1 is given exactly where the state is not lawful; a refusal hands everything back
 -- as it came. Assumes nothing.
-use Rattle.std.specs.Prelude.{ℕ, ◌≡◌, refl, Bool, true, false, cond, List, eqb, ◌≢◌}
-use Rattle.std.proofs.Common.{sym, ap₂, ◌∙◌}
+use Rattle.std.specs.Prelude.{ℕ, ◌≡◌, refl, Bool, true, false, cond, List, eqb, ◌≢◌, Result, MatchResult}
+use Rattle.std.specs.Prelude.Result.{Ok, Err}
+use Rattle.std.proofs.Common.{sym, ap₂, ◌∙◌, true≢false}
+use Rattle.std.specs.Result.{is_ok}
 use Rattle.std.proofs.Math.Path.{ap}
+use Rattle.numbers.specs.declared.Refusal.{Refusal}
+use Rattle.numbers.specs.declared.Refusal.TheVariants.{StateExcluded}
+use Rattle.numbers.specs.Refusal.{number_of, left_by}
 use Rattle.colours.specs.declared.Colours.{Colours}
-use Rattle.colours.specs.declared.Asked.{Asked}
 use Rattle.colours.specs.declared.Output.{Output}
 use Rattle.colours.specs.Output.{zeros}
 use Rattle.colours.specs.State.{moved, ruled}
-use Rattle.colours.specs.Calls.{emitted, ask_call, write_call, write_low_call, write_high_call, pixel_call}
+use Rattle.colours.specs.Calls.{Coloured as Below, Outcome as OutcomeBelow, outcome as below, coloured_by, asked_for, Asked, emitted, ask_call, write_call, write_low_call, write_high_call, pixel_call}
 use Rattle.colours.proofs.CallLaws.{write_refused, low_refused, high_refused, refused_pixel, emitted_by, pixel_by}
 use Rattle.colours.proofs.NumberLaws.{write_not_1, high_not_1, pixel_not_1, low_0}
 use Rattle.colours_c.specs.declared.Held.{Held}
@@ -18,7 +22,7 @@ use Rattle.colours_c.specs.declared.Coloured.{Coloured}
 use Rattle.colours_c.specs.Levels.{handed_output}
 use Rattle.colours_c.specs.State.{lawful, taken, handed, taken_inputs}
 use Rattle.colours_c.specs.StateLaws.{handed_taken, taken_ruled, taken_handed, handed_lawful}
-use Rattle.colours_c.specs.Calls.{taking, handed_on, held_excluded, held_low, outcome, handed_outcome, held_write, held_high, handed_on_pixel, pixel_refused, held_pixel, held_moved, moved_on}
+use Rattle.colours_c.specs.Calls.{taken_or_excluded, answered, held_asked, taking, handed_on, held_excluded, held_low, outcome, handed_outcome, held_write, held_high, handed_on_pixel, pixel_refused, held_pixel, held_moved, moved_on}
 
 -- ---- the ways out
 
@@ -40,6 +44,45 @@ module _ {A : Type 0} (made : Colours → A) (excluded : A) where
       go : (b : Bool) → lawful h ≡ b → P (cond b (made (taken h)) excluded)
       go true e = f e
       go false e = g e
+
+-- ---- an answer below is that of the export
+
+answered_taken : (h : Held) → lawful h ≡ true → (x : Result Colours Refusal) → answered h x ≡ handed_on (coloured_by (taken h) x)
+answered_taken h e (Ok s) = refl
+answered_taken h e (Err refusal) = ap (λ (y : Held). record { state = y; number = number_of refusal }) (sym (handed_taken h e))
+
+-- x answers a call on the state taken, where the rules allow it: P is what the call says of it
+module _ (h : Held) (P : Colours → Type 0) (x : Result Colours Refusal)
+    (a : MatchResult (taken_or_excluded h) P (λ refusal. x ≡ Err refusal)) where
+  pub answered_by : (call : Colours → Below) → ((s : Colours) → P s → coloured_by s x ≡ call s)
+      → answered h x ≡ taking h (λ s. handed_on (call s)) (held_excluded h)
+  answered_by call f = go (lawful h) refl a
+    where
+      go : (b : Bool) → lawful h ≡ b → MatchResult (cond b (Ok (taken h)) (Err StateExcluded)) P (λ refusal. x ≡ Err refusal)
+          → answered h x ≡ cond b (handed_on (call (taken h))) (held_excluded h)
+      go true e p = answered_taken h e x ∙ ap handed_on (f (taken h) p)
+      go false e q = ap (answered h) q
+
+module _ (h : Held) (call : Colours → OutcomeBelow) (t : List ℕ) {r : Coloured} where
+  pub written_ok : {s : Colours} (x : Result Colours Refusal) {t' : List ℕ} → taken_or_excluded h ≡ Ok s → r ≡ answered h x
+      → below (coloured_by s x) t' ≡ call s → outcome r t' ≡ taking h (λ s. handed_outcome (call s)) (outcome (held_excluded h) t)
+  written_ok {s} x {t'} e q f = go (lawful h) refl e
+    where
+      go : (b : Bool) → lawful h ≡ b → cond b (Ok (taken h)) (Err StateExcluded) ≡ Ok s
+          → outcome r t' ≡ cond b (handed_outcome (call (taken h))) (outcome (held_excluded h) t)
+      go true l e =
+          let k : s ≡ taken h = sym (ap (left_by s) e) in
+          ap (λ (y : Coloured). outcome y t') (q ∙ answered_taken h l x) ∙ ap handed_outcome (rw k at f)
+      go false l e = absurd (true≢false (sym (ap is_ok e)))
+
+  pub written_err : (refusal : Refusal) → taken_or_excluded h ≡ Err refusal → r ≡ answered h (Err refusal)
+      → outcome r t ≡ taking h (λ s. handed_outcome (call s)) (outcome (held_excluded h) t)
+  written_err refusal e q = go (lawful h) e
+    where
+      go : (b : Bool) → cond b (Ok (taken h)) (Err StateExcluded) ≡ Err refusal
+          → outcome r t ≡ cond b (handed_outcome (call (taken h))) (outcome (held_excluded h) t)
+      go true e = absurd (true≢false (ap is_ok e))
+      go false e = ap (λ (y : Coloured). outcome y t) (q ∙ ap (answered h) (sym e))
 
 -- ---- 1 where the state is not lawful, and only there
 
@@ -152,3 +195,14 @@ moved_on_is h t p e f =
     ap (moved_on h) f
     ∙ moved_by h e (ask_call t (taken_inputs p))
     ∙ rw e (ap handed_on_pixel (sym (pixel_by (taken h) t (taken_inputs p) (taken_ruled h e))))
+
+-- an excluded state too
+pub moved_asked : (h : Held) (t : List ℕ) (p : HeldInputs) → moved_on h (held_asked h t p) ≡ held_pixel h t p
+unfolding held_pixel
+moved_asked h t p = go (lawful h) refl
+  where
+    go : (b : Bool) → lawful h ≡ b
+        → moved_on h (cond b (ask_call t (taken_inputs p)) (asked_for 1 zeros))
+        ≡ cond b (handed_on_pixel (pixel_call (taken h) t (taken_inputs p))) (pixel_refused 1 h)
+    go true e = moved_by h e (ask_call t (taken_inputs p)) ∙ ap handed_on_pixel (sym (pixel_by (taken h) t (taken_inputs p) (taken_ruled h e)))
+    go false e = refl

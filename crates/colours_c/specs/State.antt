@@ -1,10 +1,9 @@
 -- The state and the inputs as C has them, and as `colours` has them. Assumes nothing.
-use Rattle.std.specs.Prelude.{ℕ, Bool, not, ◌&&◌, ◌||◌, cond, eqb}
+use Rattle.std.specs.Prelude.{ℕ, Bool, not, ◌&&◌, ◌||◌, cond, eqb, Option}
 use Rattle.words.specs.Bit.{digit}
 use Rattle.colours.specs.declared.Colours.{Colours}
 use Rattle.colours.specs.declared.Inputs.{Inputs}
-use Rattle.colours.specs.declared.Waiting.{Waiting}
-use Rattle.colours.specs.declared.Waiting.TheVariants.{None, Low}
+use Rattle.std.specs.Prelude.Option.{None, Some}
 use Rattle.colours.specs.State.{colours, waits, low_waiting}
 use Rattle.colours_c.specs.declared.Held.{Held}
 use Rattle.colours_c.specs.declared.HeldInputs.{HeldInputs}
@@ -18,8 +17,8 @@ part_ok waiting low = eqb waiting 1 || (eqb waiting 0 && eqb low 0)
 unfoldable pub lawful : Held → Bool
 lawful h = ((part_ok h.waiting h.low && makes h.first) && makes h.second) && makes h.third
 
-abbrev pub taken_waiting : ℕ → ℕ → Waiting
-taken_waiting waiting low = cond (eqb waiting 0) None (Low low)
+abbrev pub taken_waiting : ℕ → ℕ → Option ℕ
+taken_waiting waiting low = cond (eqb waiting 0) None (Some low)
 
 unfoldable pub taken : Held → Colours
 taken h = colours (taken_waiting h.waiting h.low) (taken_output h.first) (taken_output h.second) (taken_output h.third)

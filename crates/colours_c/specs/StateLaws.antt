@@ -1,12 +1,11 @@
 -- The state there and back: what C hands over and is lawful comes back as it was, and so does a state that the rules allow. What C hands
 -- over and is lawful is a state that the rules allow. Assumes nothing.
-use Rattle.std.specs.Prelude.{ℕ, ◌≡◌, refl, true, ◌&&◌, eqb}
+use Rattle.std.specs.Prelude.{ℕ, ◌≡◌, refl, true, ◌&&◌, eqb, Option}
 use Rattle.std.proofs.Common.{eqb-true}
 use Rattle.numbers.specs.Between.{both, either}
 use Rattle.words.specs.Bit.{digit}
 use Rattle.colours.specs.declared.Colours.{Colours}
-use Rattle.colours.specs.declared.Waiting.{Waiting}
-use Rattle.colours.specs.declared.Waiting.TheVariants.{None, Low}
+use Rattle.std.specs.Prelude.Option.{None, Some}
 use Rattle.colours.specs.State.{waits, low_waiting, ruled}
 use Rattle.colours.proofs.StateLaws.{ruled_parts, ruled_whole}
 use Rattle.colours_c.specs.declared.Held.{Held}
@@ -23,13 +22,13 @@ part_back w l e =
     (λ p. let q = eqb-true w 1 p in rw q (refl, refl))
     (λ p. let b = both (eqb w 0) (eqb l 0) p in let q = eqb-true w 0 b.0 in let r = eqb-true l 0 b.1 in rw (q, r) (refl, refl))
 
-waiting_part_ok : (w : Waiting) → part_ok (digit (waits w)) (low_waiting w) ≡ true
+waiting_part_ok : (w : Option ℕ) → part_ok (digit (waits w)) (low_waiting w) ≡ true
 waiting_part_ok None = refl
-waiting_part_ok (Low low) = refl
+waiting_part_ok (Some low) = refl
 
-waiting_back : (w : Waiting) → taken_waiting (digit (waits w)) (low_waiting w) ≡ w
+waiting_back : (w : Option ℕ) → taken_waiting (digit (waits w)) (low_waiting w) ≡ w
 waiting_back None = refl
-waiting_back (Low low) = refl
+waiting_back (Some low) = refl
 
 -- ---- the state
 

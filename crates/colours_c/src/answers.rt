@@ -1,69 +1,55 @@
-// An answer as C has it: of the call below, or 1 where the rules exclude the state.
+// An answer as C has it: refused, the state is the one that C handed over.
 ghost use Rattle.std.specs.Prelude.{◌≡◌};
-ghost use Rattle.colours_c.specs.Calls.{handed_on, moved_on, held_excluded, pixel_refused};
+ghost use Rattle.colours.specs.Calls.{asked_by};
+ghost use Rattle.colours_c.specs.Calls.{answered, moved_on};
 
-use crate::levels::hand_output;
-use crate::state::hand;
 use crate::{Coloured, Emitted, Held, HeldLevels};
-use colours::Asked;
+use colours::{Colours, Output};
+use numbers::Refusal;
 
-pub(crate) fn answer(done: colours::Coloured) -> Coloured
-    ensures { result ≡ handed_on done }
-{
-    let state = done.state;
-    Coloured {
-        state: hand(state),
-        number: done.number,
+impl Coloured {
+    // Of the answer of a write below.
+    pub(crate) fn of(state: Held, answer: Result<Colours, Refusal>) -> Coloured
+        ensures { result ≡ answered state answer }
+    {
+        match answer {
+            Ok(colours) => Coloured {
+                state: Held::from(colours),
+                number: 0,
+            },
+            Err(refusal) => Coloured {
+                state,
+                number: u32::from(refusal),
+            },
+        }
     }
 }
 
-// A pixel by what it asked for: the outputs on their way move up as they are, with no `Colours` made of them.
-pub(crate) fn answer_pixel(state: Held, asked: Asked) -> Emitted
-    ensures { result ≡ moved_on state asked }
-{
-    let number = asked.number;
-    if number != numbers::DONE {
-        return refused_pixel(state, number);
-    }
-    let output = asked.output;
-    let third = hand_output(output);
-    let levels = state.first;
-    let first = state.second;
-    let second = state.third;
-    let state = Held {
-        waiting: state.waiting,
-        low: state.low,
-        first,
-        second,
-        third,
-    };
-    Emitted {
-        state,
-        levels,
-        number,
-    }
-}
-
-pub(crate) fn excluded(state: Held) -> Coloured
-    ensures { result ≡ held_excluded state }
-{
-    Coloured {
-        state,
-        number: numbers::STATE_EXCLUDED,
-    }
-}
-
-// A refused pixel: the state as it came, and zeros.
-pub(crate) fn refused_pixel(state: Held, number: u32) -> Emitted
-    ensures { result ≡ pixel_refused number state }
-{
-    Emitted {
-        state,
-        levels: HeldLevels {
-            red: 0,
-            green: 0,
-            blue: 0,
-        },
-        number,
+impl Emitted {
+    // A pixel by what it asked for: the outputs on their way move up as they are, with no `Colours` made of them. Refused, it answers zeros.
+    pub(crate) fn of(state: Held, asked: Result<Output, Refusal>) -> Emitted
+        ensures { result ≡ moved_on state (asked_by asked) }
+    {
+        match asked {
+            Ok(output) => Emitted {
+                state: Held {
+                    first: state.second,
+                    second: state.third,
+                    third: HeldLevels::from(output),
+                    ..state
+                },
+                levels: state.first,
+                number: 0,
+            },
+            Err(refusal) => Emitted {
+                state,
+                levels: HeldLevels {
+                    red: 0,
+                    green: 0,
+                    blue: 0,
+                },
+                number: u32::from(refusal),
+            },
+        }
     }
 }

@@ -5,7 +5,7 @@ ghost use Rattle.colours_c.specs.Levels.{number_of, handed_output, black_or_whit
 use crate::HeldLevels;
 use colours::{Level, Output};
 
-// A level as a number.
+// A level as a number. No `From`, since level and number are both another crate's.
 fn number_of(level: Level) -> u8
     ensures { result ≡ number_of level }
 {
@@ -18,17 +18,17 @@ fn number_of(level: Level) -> u8
     }
 }
 
-pub(crate) fn hand_output(output: Output) -> HeldLevels
-    ensures { result ≡ handed_output output }
-{
-    let levels = output.levels();
-    let red = levels.red;
-    let green = levels.green;
-    let blue = levels.blue;
-    HeldLevels {
-        red: number_of(red),
-        green: number_of(green),
-        blue: number_of(blue),
+impl From<Output> for HeldLevels {
+    ghost from_gives = { λ output levels. levels ≡ handed_output output };
+
+    #[tactic(auto, unfolding(crate::specs::Levels::handed_output))]
+    fn from(output: Output) -> HeldLevels {
+        let levels = output.levels();
+        HeldLevels {
+            red: number_of(levels.red),
+            green: number_of(levels.green),
+            blue: number_of(levels.blue),
+        }
     }
 }
 
@@ -39,43 +39,37 @@ fn black_or_white(level: u8) -> bool
     (level == 18) | (level == 19)
 }
 
-// Whether a pixel can make these three together. Green tells which: a colour, sync or blank, or an overlay.
-pub(crate) fn makes(levels: HeldLevels) -> bool
-    ensures { result ≡ makes levels }
-{
-    let red = levels.red;
-    let green = levels.green;
-    let blue = levels.blue;
-    if green <= 15 {
-        return (red <= 15) & (blue <= 15);
+impl HeldLevels {
+    // Whether a pixel can make these three together. Green tells which: a colour, sync or blank, or an overlay.
+    #[tactic(auto, unfolding(crate::specs::Levels::makes))]
+    pub(crate) fn makes(self) -> bool
+        ensures { result ≡ makes self }
+    {
+        match self.green {
+            0..=15 => (self.red <= 15) & (self.blue <= 15),
+            16 | 17 => (self.red == 17) & (self.blue == 17),
+            _ => black_or_white(self.red) & black_or_white(self.green) & black_or_white(self.blue),
+        }
     }
-    if green <= 17 {
-        return (red == 17) & (blue == 17);
-    }
-    black_or_white(red) & black_or_white(green) & black_or_white(blue)
-}
 
-// The output that such three levels are: green tells which.
-pub(crate) fn take_output(levels: HeldLevels) -> Output
-    ensures { result ≡ taken_output levels }
-{
-    let green = levels.green;
-    if green == 16 {
-        return Output::Sync;
-    }
-    if green == 17 {
-        return Output::Blank;
-    }
-    if green >= 18 {
-        return Output::Overlay {
-            red: levels.red == 19,
-            green: green == 19,
-            blue: levels.blue == 19,
-        };
-    }
-    Output::Colour {
-        red: levels.red,
-        green,
-        blue: levels.blue,
+    // The output that these three are, where a pixel can make them: green tells which.
+    #[tactic(auto, unfolding(crate::specs::Levels::taken_output))]
+    pub(crate) fn output(self) -> Output
+        ensures { result ≡ taken_output self }
+    {
+        match self.green {
+            0..=15 => Output::Colour {
+                red: self.red,
+                green: self.green,
+                blue: self.blue,
+            },
+            16 => Output::Sync,
+            17 => Output::Blank,
+            _ => Output::Overlay {
+                red: self.red == 19,
+                green: self.green == 19,
+                blue: self.blue == 19,
+            },
+        }
     }
 }

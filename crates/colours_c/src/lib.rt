@@ -5,21 +5,20 @@
 
 ghost use Rattle.std.specs.Prelude.{◌≡◌};
 ghost use Rattle.colours.specs.State.{fresh};
-ghost use Rattle.colours.specs.Calls.{read_call, read_low_call, read_high_call};
+ghost use Rattle.colours.specs.Calls.{asked_by, read_call, read_low_call, read_high_call};
 ghost use Rattle.colours_c.specs.State.{handed};
-ghost use Rattle.colours_c.specs.Calls.{outcome, held_write, held_low, held_high, held_pixel};
+ghost use Rattle.colours_c.specs.Calls.{outcome, held_write, held_low, held_high, held_asked, held_pixel};
 
 mod answers;
 mod levels;
 mod state;
 
-use answers::{answer, answer_pixel, excluded, refused_pixel};
-use colours::{Byte, Colours, Word};
-use state::{hand, lawful, take, take_inputs};
+use colours::{Byte, Colours, Inputs, Output, Word};
+use numbers::Refusal;
 
 // Three levels: a step 0 to 15, or 16 sync, 17 blank, 18 reference black, 19 peak white.
 #[repr(C)]
-#[derive(Clone, Copy)]
+#[derive(Clone, Copy, Debug, PartialEq, Eq)]
 pub struct HeldLevels {
     pub red: u8,
     pub green: u8,
@@ -28,7 +27,7 @@ pub struct HeldLevels {
 
 // The state as the C program holds it. waiting: 0 or 1; low: 0 where none waits.
 #[repr(C)]
-#[derive(Clone, Copy)]
+#[derive(Clone, Copy, Debug, PartialEq, Eq)]
 pub struct Held {
     pub waiting: u8,
     pub low: u8,
@@ -39,7 +38,7 @@ pub struct Held {
 
 // The inputs of a pixel as C has them, where the syncs are `horizontal_sync` and `vertical_sync` and the guns `red_on` and so on.
 #[repr(C)]
-#[derive(Clone, Copy)]
+#[derive(Clone, Copy, Debug, PartialEq, Eq)]
 pub struct HeldInputs {
     pub address: u32,
     pub horizontal: u8,
@@ -54,7 +53,7 @@ pub struct HeldInputs {
 
 // The state after a write, and the number given back.
 #[repr(C)]
-#[derive(Clone, Copy)]
+#[derive(Clone, Copy, Debug, PartialEq, Eq)]
 pub struct Coloured {
     pub state: Held,
     pub number: u32,
@@ -62,7 +61,7 @@ pub struct Coloured {
 
 // The state after a pixel, the levels that came out, and the number given back.
 #[repr(C)]
-#[derive(Clone, Copy)]
+#[derive(Clone, Copy, Debug, PartialEq, Eq)]
 pub struct Emitted {
     pub state: Held,
     pub levels: HeldLevels,
@@ -73,27 +72,26 @@ pub struct Emitted {
 pub fn linkshoar_colours_fresh() -> Held
     ensures { result ≡ handed fresh }
 {
-    hand(Colours::fresh())
+    Held::from(Colours::fresh())
 }
 
-// A write of 16 bits.
+// A write of 16 bits. Here and for the high part a `match`: of a closure for `and_then` the proof did not close, since nothing says what it
+// leaves of the table.
 pub fn linkshoar_colours_write(state: Held, table: &mut [u16], address: u32, value: u32) -> Coloured
     ensures { outcome result table.new ≡ held_write state table.old address value }
 {
-    if lawful(state) {
-        return answer(take(state).write(table, address, value));
+    match Colours::try_from(state) {
+        Ok(colours) => Coloured::of(state, colours.write(table, address, value)),
+        Err(refusal) => Coloured::of(state, Err(refusal)),
     }
-    excluded(state)
 }
 
 // The low eight bits of a word.
 pub fn linkshoar_colours_write_low(state: Held, low: u8) -> Coloured
     ensures { result ≡ held_low state low }
 {
-    if lawful(state) {
-        return answer(take(state).write_low(low));
-    }
-    excluded(state)
+    let answer = Colours::try_from(state).and_then(|colours| colours.write_low(low));
+    Coloured::of(state, answer)
 }
 
 // The high five bits, with which the word is stored.
@@ -105,10 +103,10 @@ pub fn linkshoar_colours_write_high(
 ) -> Coloured
     ensures { outcome result table.new ≡ held_high state table.old address high }
 {
-    if lawful(state) {
-        return answer(take(state).write_high(table, address, high));
+    match Colours::try_from(state) {
+        Ok(colours) => Coloured::of(state, colours.write_high(table, address, high)),
+        Err(refusal) => Coloured::of(state, Err(refusal)),
     }
-    excluded(state)
 }
 
 // A read of 16 bits.
@@ -132,12 +130,17 @@ pub fn linkshoar_colours_read_high(table: &[u16], address: u32) -> Byte
     colours::reads::read_high(table, address)
 }
 
+// What a pixel asks for, where the rules allow the state.
+fn asked(state: Held, table: &[u16], inputs: HeldInputs) -> Result<Output, Refusal>
+    ensures { asked_by result ≡ held_asked state table.now inputs }
+{
+    state.refusal()?;
+    colours::asks::ask(table, Inputs::from(inputs))
+}
+
 // One pixel clock: inputs enter, and the levels of those that entered three clocks before come out.
 pub fn linkshoar_colours_pixel(state: Held, table: &[u16], inputs: HeldInputs) -> Emitted
     ensures { result ≡ held_pixel state table.now inputs }
 {
-    if lawful(state) {
-        return answer_pixel(state, colours::asks::ask(table, take_inputs(inputs)));
-    }
-    refused_pixel(state, numbers::STATE_EXCLUDED)
+    Emitted::of(state, asked(state, table, inputs))
 }

@@ -1,5 +1,6 @@
 -- Addresses of 18 bits, and a pan: a signed number of words added to one. Assumes nothing.
 use Rattle.std.specs.Prelude.{ℕ, ◌-◌, ◌/◌, ◌%◌, Bool, ◌&&◌, ℤ, pos, negsuc, ◌+ℤ◌, int_le}
+use Rattle.controller.specs.declared.Address.{Address}
 
 -- a number wrapped at 18 bits: what is left of it over whole turns of 262,144
 abbrev pub wrap : ℕ → ℕ
@@ -28,3 +29,6 @@ row_of address = address / 256 % 256
 
 abbrev pub column_of : ℕ → ℕ
 column_of address = address % 256
+
+abbrev pub address_of : ℕ → Address
+address_of n = record { bank = bank_of n; row = row_of n; column = column_of n }

@@ -79,7 +79,7 @@ pub reach_mag : (words : ℤ) → reaches words ≡ true → mag words ≤ 13107
 reach_mag (pos n) e = leb-true n 131071 e
 reach_mag (negsuc n) e = leb-true n 131071 (both (nat_le n 131071) true e).0
 
--- ---- one turn more, by which the code keeps its sum from being negative
+-- ---- one turn more, which keeps the sum from being negative
 
 -- no more than one turn below 0, and below two turns
 pub Near : ℤ → Type 0

@@ -59,7 +59,7 @@ after_done c s a = leaves_made (number c s) s (effect c s) (number_accepted c s 
 pub refused_keeps : (c : Call) (s : Controller) → number c s ≢ 0 → after c s ≡ s
 refused_keeps c s h = leaves_before (number c s) s (effect c s) h
 
--- the same for the code, which has the number as n
+-- the same of a number n that is the one the call gives
 module _ (c : Call) (s : Controller) (n : ℕ) (e : n ≡ number c s) where
   pub call_given : n ≡ 0 → Accepted c s
   call_given z = number_zero c s (sym e ∙ z)

@@ -1,12 +1,13 @@
 -- Every call with its arguments, what refuses it, and what it answers and leaves, for every input: change request M-100. A refusal
 -- answers zeros besides and changes nothing. Assumes nothing.
-use Rattle.std.specs.Prelude.{ℕ, Bool, true, not, ◌&&◌, ◌||◌, ℤ, ◌==◌, nat_le, nat_lt}
+use Rattle.std.specs.Prelude.{ℕ, Bool, true, not, ◌&&◌, ◌||◌, ℤ, ◌==◌, nat_le, nat_lt, Result}
+use Rattle.numbers.specs.declared.Refusal.{Refusal}
+use Rattle.numbers.specs.Refusal.{given_back, left_by}
 use Rattle.numbers.specs.Refuse.{refuse, leaves}
+use Rattle.controller.specs.declared.Address.{Address}
 use Rattle.controller.specs.declared.Controller.{Controller}
-use Rattle.controller.specs.declared.Controlled.{Controlled}
-use Rattle.controller.specs.declared.Fetched.{Fetched}
 use Rattle.controller.specs.State.{with_top, with_mode, overrides, update_of, ruled}
-use Rattle.controller.specs.Address.{reaches, panned, bank_of, row_of, column_of}
+use Rattle.controller.specs.Address.{reaches, panned, bank_of, row_of, column_of, address_of}
 use Rattle.controller.specs.Effect.{offset_set, video_set, advanced, refreshed, framed, stepped}
 
 pub data Call : Type 0 where
@@ -72,6 +73,19 @@ after c s = leaves (number c s) s (effect c s)
 
 -- ---- the whole answer
 
+-- the state after a call, and the number given back
+pub record Controlled : Type 0 where
+  pub state : Controller
+  pub number : ℕ
+
+-- the state after a fetch, the number given back, and the address of the word fetched
+pub record Fetched : Type 0 where
+  pub state : Controller
+  pub number : ℕ
+  pub bank : ℕ
+  pub row : ℕ
+  pub column : ℕ
+
 abbrev pub controlled : ℕ → Controller → Controlled
 controlled n s = record { state = s; number = n }
 
@@ -84,3 +98,13 @@ fetched n s address = record { state = s; number = n; bank = bank_of address; ro
 
 abbrev pub fetch_call : Controller → Fetched
 fetch_call s = fetched (number Fetch s) (after Fetch s) (leaves (number Fetch s) 0 s.counter)
+
+-- ---- the same of what the code answers: a refusal leaves the state as it was, and has no address
+
+abbrev pub controlled_by : Controller → Result Controller Refusal → Controlled
+controlled_by before answer = controlled (given_back answer) (left_by before answer)
+
+abbrev pub fetched_by : Controller → Result (Controller × Address) Refusal → Fetched
+fetched_by before answer =
+    let left = left_by (before, address_of 0) answer in
+    record { state = left.0; number = given_back answer; bank = left.1.bank; row = left.1.row; column = left.1.column }

@@ -13,7 +13,7 @@ advanced_holds P s p q = go (s.inhibited || overrides s.update)
     go true = p
     go false = q
 
--- as the code tells them apart
+-- by a test that says whether it is override
 module _ (s : Controller) (b : Bool) (e : b ≡ overrides s.update) where
   pub advanced_stays : (s.inhibited || b) ≡ true → s ≡ advanced s
   advanced_stays h = rw (← e, h)

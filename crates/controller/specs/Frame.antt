@@ -1,8 +1,7 @@
 -- A frame as a display makes it, and what a fetch answers. Assumes nothing.
 use Rattle.std.specs.Prelude.{◌≡◌, ℕ, zero, suc, Bool, true, false, ◌≢◌, List, [], ◌∷◌, ◌++◌, ℤ, ◌==◌}
-use Rattle.controller.specs.declared.Fetched.{Fetched}
 use Rattle.controller.specs.Address.{bank_of, row_of, column_of}
-use Rattle.controller.specs.Calls.{Call, SetTopOfFrame, Pan, SetMode, Video, HorizontalSync, VerticalSync, Fetch, mode_allowed}
+use Rattle.controller.specs.Calls.{Call, Fetched, SetTopOfFrame, Pan, SetMode, Video, HorizontalSync, VerticalSync, Fetch, mode_allowed}
 use Rattle.controller.specs.Session.{times}
 
 -- a line of w words: w fetches, video off, one horizontal sync, video on

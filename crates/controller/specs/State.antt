@@ -60,6 +60,12 @@ interleaves Interleaved = true
 abbrev pub update_of : ℕ → Update
 update_of n = cond (n == 0) Retrace (cond (n == 1) Override Interleaved)
 
+-- the number of a mode
+abbrev pub number_of : Update → ℕ
+number_of Retrace = 0
+number_of Override = 1
+number_of Interleaved = 2
+
 -- ---- the states that the rules allow
 
 -- Top of Frame and counter of 18 bits, 0 to 3 refresh cycles, page mode not together with interleaved update

@@ -1,39 +1,42 @@
 // A video word fetched.
-ghost use Rattle.std.specs.Prelude.{◌≡◌, ◌<◌};
-ghost use Rattle.controller.specs.Calls.{fetched, fetch_call};
+#![tactic(auto, unfolding(crate::specs::State::ruled, crate::specs::Calls::allows, crate::specs::Calls::against, crate::specs::Calls::refusal, crate::specs::Calls::effect))]
 
-use crate::{Controller, Fetched};
+ghost use Rattle.std.specs.Prelude.{◌≡◌, ◌<◌};
+ghost use Rattle.controller.specs.Address.{address_of};
+ghost use Rattle.controller.specs.Calls.{Fetch, allows, fetch_call, fetched_by};
+
+use crate::{Address, Controller};
+use numbers::Refusal;
 
 impl Controller {
-    // The state, the number given back, and an address as bank, row and column.
-    fn fetched(self, number: u32, address: u32) -> Fetched
-        requires { address < 262144 }
-        ensures { result ≡ fetched number self address }
+    // The counter's address as bank, row and column.
+    fn address(self) -> Address
+        requires { self.counter < 262144 }
+        ensures { result ≡ address_of self.counter }
     {
-        let bank = (address / 65536) as u8;
-        let row = (address / 256 % 256) as u8;
-        let column = (address % 256) as u8;
-        Fetched {
-            state: self,
-            number,
-            bank,
-            row,
-            column,
+        Address {
+            bank: (self.counter / 65536) as u8,
+            row: (self.counter / 256 % 256) as u8,
+            column: (self.counter % 256) as u8,
         }
     }
 
-    // The counter's address; then the counter goes up by one, wrapped at 18 bits.
-    pub fn fetch(self) -> Fetched
-        ensures { result ≡ fetch_call self }
+    // Whether words are fetched: video is on, and the mode is not override.
+    fn shows(self) -> bool
+        ensures { result ≡ allows Fetch self }
     {
-        let video = self.video;
-        let overrides = self.overrides();
-        let n = self.refusal(video & !overrides, numbers::VIDEO_OFF_OR_OVERRIDE);
-        if n != numbers::DONE {
-            return self.fetched(n, 0);
-        }
-        let address = self.counter;
-        let next = (address + 1) % 262144;
-        self.with_counter(next).fetched(numbers::DONE, address)
+        self.video && !self.overrides()
+    }
+
+    // The counter's address; then the counter goes up by one, wrapped at 18 bits.
+    pub fn fetch(self) -> Result<(Controller, Address), Refusal>
+        ensures { fetched_by self result ≡ fetch_call self }
+    {
+        self.refusal(self.shows(), Refusal::VideoOffOrOverride)?;
+        let next = Controller {
+            counter: (self.counter + 1) % 262144,
+            ..self
+        };
+        Ok((next, self.address()))
     }
 }

@@ -11,24 +11,24 @@
 #![tactic(auto)]
 
 ghost use Rattle.std.specs.Prelude.{◌≡◌};
-ghost use Rattle.controller.specs.State.{fresh, update_of};
+ghost use Rattle.controller.specs.State.{fresh, update_of, number_of};
 
 mod fetch;
 mod settings;
 mod state;
 mod syncs;
 
-// When the graphics processor has the display memory: in the retrace only, always, or between two words.
-#[derive(Clone, Copy)]
+// When the graphics processor has the display memory: in the retrace only, always, or between two words. Each by its number.
+#[derive(Clone, Copy, Debug, PartialEq, Eq)]
 pub enum Update {
-    Retrace,
-    Override,
-    Interleaved,
+    Retrace = 0,
+    Override = 1,
+    Interleaved = 2,
 }
 
 // The registers and counters, by value: `top` is Top of Frame, `refresh` the refresh counter, `cycles` the refresh cycles at each horizontal
 // sync. Every field is public: a state that the rules exclude can be built, and is refused.
-#[derive(Clone, Copy)]
+#[derive(Clone, Copy, Debug, PartialEq, Eq)]
 pub struct Controller {
     pub top: u32,
     pub counter: u32,
@@ -41,33 +41,34 @@ pub struct Controller {
     pub inhibited: bool,
 }
 
-// The state after a call, and the number given back.
-#[derive(Clone, Copy)]
-pub struct Controlled {
-    pub state: Controller,
-    pub number: u32,
-}
-
-// The state after a fetch, the number given back, and the address of the word fetched.
-#[derive(Clone, Copy)]
-pub struct Fetched {
-    pub state: Controller,
-    pub number: u32,
+// The address of a word, as the RAMs have it.
+#[derive(Clone, Copy, Debug, PartialEq, Eq)]
+pub struct Address {
     pub bank: u8,
     pub row: u8,
     pub column: u8,
 }
 
-impl Update {
-    // The update mode of a number: 0 retrace only, 1 override, else interleaved. Whoever has a number over 2 refuses it before.
-    pub fn of(number: u32) -> Update
-        ensures { result ≡ update_of number }
-    {
+// The update mode of a number: 0 retrace only, 1 override, else interleaved. Whoever has a number over 2 refuses it before.
+// It answers for every number, as `of_once` says, so it is no `TryFrom`.
+impl From<u32> for Update {
+    ghost from_gives = { λ number update. update ≡ update_of number };
+
+    fn from(number: u32) -> Update {
         match number {
             0 => Update::Retrace,
             1 => Update::Override,
             _ => Update::Interleaved,
         }
+    }
+}
+
+// The number of an update mode.
+impl From<Update> for u8 {
+    ghost from_gives = { λ update number. number ≡ number_of update };
+
+    fn from(update: Update) -> u8 {
+        update as u8
     }
 }
 

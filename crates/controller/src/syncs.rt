@@ -1,71 +1,65 @@
 // Video on and off, and the two syncs.
+#![tactic(auto, unfolding(crate::specs::State::ruled, crate::specs::Calls::allows, crate::specs::Calls::against, crate::specs::Calls::refusal, crate::specs::Calls::effect))]
+
 ghost use Rattle.std.specs.Prelude.{◌≡◌, true};
 ghost use Rattle.controller.specs.State.{ruled};
-ghost use Rattle.controller.specs.Effect.{video_set, advanced, refreshed};
-ghost use Rattle.controller.specs.Calls.{Video, HorizontalSync, VerticalSync, does};
+ghost use Rattle.controller.specs.Effect.{advanced};
+ghost use Rattle.controller.specs.Calls.{Video, HorizontalSync, VerticalSync, does, controlled_by};
 
-use crate::{Controlled, Controller};
+use crate::Controller;
+use numbers::{Refusal, refuse};
+use std::num::wrapping_add_u8;
 
 impl Controller {
-    // Video on or off; a change from off to on ends the inhibition.
-    fn video_set(self, on: bool) -> Controller
-        ensures { result ≡ video_set self on }
-    {
-        self.with_video(on, self.inhibited & (self.video | !on))
-    }
-
     // The Offset added to the counter, wrapped at 18 bits; not while inhibited, nor in override.
     fn advanced(self) -> Controller
         requires { ruled self ≡ true }
         ensures { result ≡ advanced self }
     {
-        let inhibited = self.inhibited;
-        let overrides = self.overrides();
-        if inhibited | overrides {
-            return self;
+        if self.inhibited || self.overrides() {
+            self
+        } else {
+            Controller {
+                counter: (self.counter + u32::from(self.offset)) % 262144,
+                ..self
+            }
         }
-        self.with_counter((self.counter + self.offset as u32) % 262144)
     }
 
-    // The refresh cycles of a horizontal sync, each of which raises the refresh counter by one.
-    fn refreshed(self) -> Controller
-        ensures { result ≡ refreshed self }
+    // Video on, or off where the number is 0; a change from off to on ends the inhibition.
+    pub fn video(self, on: u32) -> Result<Controller, Refusal>
+        ensures { controlled_by self result ≡ does (Video on) self }
     {
-        self.with_refresh(std::num::wrapping_add_u8(self.refresh, self.cycles))
+        refuse(self.ruled(), Refusal::StateExcluded)?;
+        let video = on != 0;
+        Ok(Controller {
+            video,
+            inhibited: self.inhibited && (self.video || !video),
+            ..self
+        })
     }
 
-    // Video on, or off where the number is 0.
-    pub fn video(self, on: u32) -> Controlled
-        ensures { result ≡ does (Video on) self }
+    // A horizontal sync: the Offset is added, and each of the refresh cycles raises the refresh counter by one.
+    pub fn horizontal_sync(self) -> Result<Controller, Refusal>
+        ensures { controlled_by self result ≡ does HorizontalSync self }
     {
-        let n = self.refusal(true, numbers::DONE);
-        if n != numbers::DONE {
-            return self.controlled(n);
-        }
-        self.video_set(on != 0).controlled(numbers::DONE)
-    }
-
-    // A horizontal sync: the Offset is added, and the refresh cycles are made.
-    pub fn horizontal_sync(self) -> Controlled
-        ensures { result ≡ does HorizontalSync self }
-    {
-        let n = self.refusal(true, numbers::DONE);
-        if n != numbers::DONE {
-            return self.controlled(n);
-        }
-        self.advanced().refreshed().controlled(numbers::DONE)
+        refuse(self.ruled(), Refusal::StateExcluded)?;
+        let advanced = self.advanced();
+        Ok(Controller {
+            refresh: wrapping_add_u8(advanced.refresh, advanced.cycles),
+            ..advanced
+        })
     }
 
     // A vertical sync, in override too: the counter is loaded from Top of Frame, and additions are inhibited.
-    pub fn vertical_sync(self) -> Controlled
-        ensures { result ≡ does VerticalSync self }
+    pub fn vertical_sync(self) -> Result<Controller, Refusal>
+        ensures { controlled_by self result ≡ does VerticalSync self }
     {
-        let n = self.refusal(true, numbers::DONE);
-        if n != numbers::DONE {
-            return self.controlled(n);
-        }
-        self.with_counter(self.top)
-            .with_video(self.video, true)
-            .controlled(numbers::DONE)
+        refuse(self.ruled(), Refusal::StateExcluded)?;
+        Ok(Controller {
+            counter: self.top,
+            inhibited: true,
+            ..self
+        })
     }
 }

@@ -11,6 +11,14 @@ use Rattle.controller_c.specs.contracts.linkshoar_controller_video as video
 use Rattle.controller_c.specs.contracts.linkshoar_controller_horizontal_sync as horizontal_sync
 use Rattle.controller_c.specs.contracts.linkshoar_controller_vertical_sync as vertical_sync
 use Rattle.controller_c.specs.contracts.linkshoar_controller_fetch as fetch
+use Rattle.controller_c.specs.contracts.state.ControllerTryFromHeld.try_from as take
+use Rattle.controller_c.specs.contracts.state.HeldFromController.from as hand
+
+pub take_once : Determines take.signature (λ M 𝓤. take.clauses {M = M} {𝓤 = 𝓤})
+take_once = by_result refl (λ κs a v w. refl)
+
+pub hand_once : Determines hand.signature (λ M 𝓤. hand.clauses {M = M} {𝓤 = 𝓤})
+hand_once = by_result refl (λ κs a v w. refl)
 
 pub fresh_once : Determines fresh.signature (λ M 𝓤. fresh.clauses {M = M} {𝓤 = 𝓤})
 fresh_once = by_result refl (λ κs a v w. refl)

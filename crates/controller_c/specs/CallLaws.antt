@@ -1,20 +1,24 @@
 -- The two ways out of each export; a refusal hands the state back as it came; calls in a row from C are those of `controller`.
 -- Assumes nothing.
-use Rattle.std.specs.Prelude.{◌≡◌, refl, Bool, true, false, cond, List, [], ◌∷◌, ◌≢◌}
+use Rattle.std.specs.Prelude.{◌≡◌, refl, Bool, true, false, cond, List, [], ◌∷◌, ◌≢◌, Result, MatchResult}
+use Rattle.std.specs.Prelude.Result.{Ok, Err}
 use Rattle.std.proofs.Math.Path.{ap}
-use Rattle.std.proofs.Common.{◌∙◌}
+use Rattle.std.proofs.Common.{sym, ◌∙◌}
+use Rattle.std.proofs.lemmas.Result.{MatchResult-at_ok, MatchResult-at_err}
+use Rattle.numbers.specs.declared.Refusal.{Refusal}
+use Rattle.numbers.specs.declared.Refusal.TheVariants.{StateExcluded}
+use Rattle.numbers.specs.Refusal.{number_of}
+use Rattle.controller.specs.declared.Address.{Address}
 use Rattle.controller.specs.declared.Controller.{Controller}
-use Rattle.controller.specs.declared.Controlled.{Controlled as Below}
-use Rattle.controller.specs.declared.Fetched.{Fetched as FetchedBelow}
-use Rattle.controller.specs.Calls.{Call, Fetch, does, fetch_call, after}
+use Rattle.controller.specs.Calls.{Controlled as Below, Fetched as FetchedBelow, Call, Fetch, does, fetch_call, after, controlled_by, fetched_by}
 use Rattle.controller.specs.CallLaws.{refused_keeps}
 use Rattle.controller.specs.Session.{session}
 use Rattle.controller_c.specs.declared.Held.{Held}
-use Rattle.controller_c.specs.State.{lawful, taken, handed}
+use Rattle.controller_c.specs.State.{lawful, taken, taking, handed}
 use Rattle.controller_c.specs.StateLaws.{handed_taken, taken_handed, handed_lawful}
-use Rattle.controller_c.specs.Calls.{handed_on, held_excluded, held_call, handed_on_fetch, fetch_excluded, held_fetch}
+use Rattle.controller_c.specs.Calls.{handed_on, held_excluded, held_call, handed_on_fetch, fetch_excluded, held_fetch, answered, answered_fetch}
 
--- ---- the two ways out, by what the code has
+-- ---- the two ways out, by whether a `Controller` can be so
 
 module _ (h : Held) (e : lawful h ≡ false) where
   pub call_excluded : (c : Call) → held_excluded h ≡ held_call c h
@@ -33,6 +37,43 @@ module _ (h : Held) (e : lawful h ≡ true) {s : Controller} (f : s ≡ taken h)
   pub fetch_done : {r : FetchedBelow} → r ≡ fetch_call s → handed_on_fetch r ≡ held_fetch h
   unfolding held_fetch
   fetch_done g = rw e (ap handed_on_fetch (g ∙ ap fetch_call f))
+
+-- ---- the same of results: t is the state taken, and P holds of it where the call below has the answer
+
+by_taking : {T : Type 0} (Q : Type 0) (h : Held) (P : Controller → Type 0) (t : Result Controller Refusal) (answer : Result T Refusal)
+    → t ≡ taking h → MatchResult t P (λ why. answer ≡ Err why)
+    → (lawful h ≡ true → P (taken h) → Q) → (lawful h ≡ false → answer ≡ Err StateExcluded → Q) → Q
+unfolding taking
+by_taking Q h P t answer e m f g = go (lawful h) refl
+  where
+    go : (b : Bool) → lawful h ≡ b → Q
+    go true l = f l (MatchResult-at_ok P (λ why. answer ≡ Err why) (taken h) (rw l at e) m)
+    go false l = g l (MatchResult-at_err P (λ why. answer ≡ Err why) StateExcluded (rw l at e) m)
+
+pub call_answered : (c : Call) (h : Held) (P : Controller → Type 0) (t answer : Result Controller Refusal) → t ≡ taking h
+    → MatchResult t P (λ why. answer ≡ Err why) → (P (taken h) → controlled_by (taken h) answer ≡ does c (taken h))
+    → answered h answer ≡ held_call c h
+call_answered c h P t answer e m f =
+    by_taking (answered h answer ≡ held_call c h) h P t answer e m (λ l p. done l answer (f p)) (λ l x. ap (answered h) x ∙ call_excluded h l c)
+  where
+    done : lawful h ≡ true → (answer : Result Controller Refusal) → controlled_by (taken h) answer ≡ does c (taken h)
+        → answered h answer ≡ held_call c h
+    done l (Ok s) g = call_done h l refl c g
+    done l (Err why) g = ap (λ (x : Held). record { state = x; number = number_of why }) (sym (handed_taken h l)) ∙ call_done h l refl c g
+
+pub fetch_answered : (h : Held) (P : Controller → Type 0) (t : Result Controller Refusal) (answer : Result (Controller × Address) Refusal)
+    → t ≡ taking h → MatchResult t P (λ why. answer ≡ Err why) → (P (taken h) → fetched_by (taken h) answer ≡ fetch_call (taken h))
+    → answered_fetch h answer ≡ held_fetch h
+fetch_answered h P t answer e m f =
+    by_taking (answered_fetch h answer ≡ held_fetch h) h P t answer e m (λ l p. done l answer (f p))
+    (λ l x. ap (answered_fetch h) x ∙ fetch_excluded_is h l)
+  where
+    done : lawful h ≡ true → (answer : Result (Controller × Address) Refusal) → fetched_by (taken h) answer ≡ fetch_call (taken h)
+        → answered_fetch h answer ≡ held_fetch h
+    done l (Ok s) g = fetch_done h l refl g
+    done l (Err why) g =
+        ap (λ (x : Held). record { state = x; number = number_of why; bank = 0; row = 0; column = 0 }) (sym (handed_taken h l))
+        ∙ fetch_done h l refl g
 
 -- ---- a refusal hands the state back as it came
 

@@ -1,10 +1,11 @@
 -- The controller's state as C has it, and as `controller` has it. Assumes nothing.
-use Rattle.std.specs.Prelude.{ℕ, Bool, not, ◌&&◌, eqb, leb}
+use Rattle.std.specs.Prelude.{Bool, not, ◌&&◌, cond, eqb, leb, Result}
+use Rattle.std.specs.Prelude.Result.{Ok, Err}
+use Rattle.numbers.specs.declared.Refusal.{Refusal}
+use Rattle.numbers.specs.declared.Refusal.TheVariants.{StateExcluded}
 use Rattle.words.specs.Bit.{digit}
 use Rattle.controller.specs.declared.Controller.{Controller}
-use Rattle.controller.specs.declared.Update.{Update}
-use Rattle.controller.specs.declared.Update.TheVariants.{Retrace, Override, Interleaved}
-use Rattle.controller.specs.State.{controller, update_of}
+use Rattle.controller.specs.State.{controller, update_of, number_of}
 use Rattle.controller_c.specs.declared.Held.{Held}
 
 -- a `Controller` can be so: an update mode of 0 to 2, and yes-or-no bytes of 0 or 1
@@ -16,11 +17,9 @@ taken h =
     controller h.top h.counter h.offset h.refresh h.cycles (update_of h.update)
     (not (eqb h.page 0)) (not (eqb h.video 0)) (not (eqb h.inhibited 0))
 
--- 0 retrace only, 1 override, 2 interleaved
-abbrev pub number_of : Update → ℕ
-number_of Retrace = 0
-number_of Override = 1
-number_of Interleaved = 2
+-- a `Controller`, or 1 where none can be so
+unfoldable pub taking : Held → Result Controller Refusal
+taking h = cond (lawful h) (Ok (taken h)) (Err StateExcluded)
 
 unfoldable pub handed : Controller → Held
 handed s =

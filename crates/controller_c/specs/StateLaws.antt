@@ -7,9 +7,9 @@ use Rattle.words.specs.BitLaws.{yes_or_no, digit_yes, digit_small}
 use Rattle.controller.specs.declared.Controller.{Controller}
 use Rattle.controller.specs.declared.Update.{Update}
 use Rattle.controller.specs.declared.Update.TheVariants.{Retrace, Override, Interleaved}
-use Rattle.controller.specs.State.{update_of}
+use Rattle.controller.specs.State.{update_of, number_of}
 use Rattle.controller_c.specs.declared.Held.{Held}
-use Rattle.controller_c.specs.State.{lawful, taken, number_of, handed}
+use Rattle.controller_c.specs.State.{lawful, taken, handed}
 
 -- ---- the update mode
 

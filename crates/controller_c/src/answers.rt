@@ -1,50 +1,29 @@
-// An answer as C has it: of the call below, or 1 where no `Controller` can be so.
+// An answer as C has it.
 ghost use Rattle.std.specs.Prelude.{◌≡◌};
-ghost use Rattle.controller_c.specs.Calls.{handed_on, handed_on_fetch, held_excluded, fetch_excluded};
+ghost use Rattle.controller.specs.Calls.{Call};
+ghost use Rattle.controller_c.specs.State.{taken};
+ghost use Rattle.controller_c.specs.Calls.{Owes, held_call};
 
-use crate::state::hand;
-use crate::{Controlled, Fetched, Held};
+use crate::{Controlled, Held};
+use controller::Controller;
+use numbers::Refusal;
 
-pub(crate) fn answer(done: controller::Controlled) -> Controlled
-    ensures { result ≡ handed_on done }
+// A call below on the state taken: 1 where no `Controller` can be so. A refusal hands the state back as it came.
+pub(crate) fn answer<F: FnOnce(Controller) -> Result<Controller, Refusal>>(
+    state: Held,
+    call: F,
+) -> Controlled
+    requires { F.IsAlwaysCallable call }
+    ensures { (c : Call) → Owes c (taken state) (F.post call (taken state)) → result ≡ held_call c state }
 {
-    let state = done.state;
-    Controlled {
-        state: hand(state),
-        number: done.number,
-    }
-}
-
-pub(crate) fn answer_fetch(done: controller::Fetched) -> Fetched
-    ensures { result ≡ handed_on_fetch done }
-{
-    let state = done.state;
-    Fetched {
-        state: hand(state),
-        number: done.number,
-        bank: done.bank,
-        row: done.row,
-        column: done.column,
-    }
-}
-
-pub(crate) fn excluded(state: Held) -> Controlled
-    ensures { result ≡ held_excluded state }
-{
-    Controlled {
-        state,
-        number: numbers::STATE_EXCLUDED,
-    }
-}
-
-pub(crate) fn excluded_fetch(state: Held) -> Fetched
-    ensures { result ≡ fetch_excluded state }
-{
-    Fetched {
-        state,
-        number: numbers::STATE_EXCLUDED,
-        bank: 0,
-        row: 0,
-        column: 0,
+    match Controller::try_from(state).and_then(call) {
+        Ok(done) => Controlled {
+            state: Held::from(done),
+            number: 0,
+        },
+        Err(refusal) => Controlled {
+            state,
+            number: u32::from(refusal),
+        },
     }
 }

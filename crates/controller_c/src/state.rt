@@ -1,58 +1,50 @@
 // The controller's state as C has it, and as `controller` has it.
+#![tactic(auto, unfolding(crate::specs::State::lawful, crate::specs::State::taken, crate::specs::State::taking, crate::specs::State::handed))]
+
 ghost use Rattle.std.specs.Prelude.{◌≡◌};
-ghost use Rattle.controller_c.specs.State.{lawful, number_of, taken, handed};
+ghost use Rattle.controller_c.specs.State.{taking, handed};
 
 use crate::Held;
 use controller::{Controller, Update};
+use numbers::{Refusal, refuse};
 
-// Whether a `Controller` can be so: an update mode of 0 to 2, and yes-or-no bytes of 0 or 1.
-pub(crate) fn lawful(state: Held) -> bool
-    ensures { result ≡ lawful state }
-{
-    (state.update <= 2) & (state.page <= 1) & (state.video <= 1) & (state.inhibited <= 1)
-}
+// Refused where no `Controller` can be so: an update mode over 2, or a yes-or-no byte that is neither 0 nor 1.
+impl TryFrom<Held> for Controller {
+    type Error = Refusal;
 
-pub(crate) fn take(held: Held) -> Controller
-    ensures { result ≡ taken held }
-{
-    let update = Update::of(held.update as u32);
-    Controller {
-        top: held.top,
-        counter: held.counter,
-        offset: held.offset,
-        refresh: held.refresh,
-        cycles: held.cycles,
-        update,
-        page: held.page != 0,
-        video: held.video != 0,
-        inhibited: held.inhibited != 0,
+    ghost try_from_gives = { λ held answer. answer ≡ taking held };
+
+    fn try_from(held: Held) -> Result<Controller, Refusal> {
+        let lawful = held.update <= 2 && held.page <= 1 && held.video <= 1 && held.inhibited <= 1;
+        refuse(lawful, Refusal::StateExcluded)?;
+        Ok(Controller {
+            top: held.top,
+            counter: held.counter,
+            offset: held.offset,
+            refresh: held.refresh,
+            cycles: held.cycles,
+            update: Update::from(u32::from(held.update)),
+            page: held.page != 0,
+            video: held.video != 0,
+            inhibited: held.inhibited != 0,
+        })
     }
 }
 
-// An update mode as a number.
-fn number_of(update: Update) -> u8
-    ensures { result ≡ number_of update }
-{
-    match update {
-        Update::Retrace => 0,
-        Update::Override => 1,
-        Update::Interleaved => 2,
-    }
-}
+impl From<Controller> for Held {
+    ghost from_gives = { λ state held. held ≡ handed state };
 
-pub(crate) fn hand(state: Controller) -> Held
-    ensures { result ≡ handed state }
-{
-    let update = state.update;
-    Held {
-        top: state.top,
-        counter: state.counter,
-        offset: state.offset,
-        refresh: state.refresh,
-        cycles: state.cycles,
-        update: number_of(update),
-        page: state.page as u8,
-        video: state.video as u8,
-        inhibited: state.inhibited as u8,
+    fn from(state: Controller) -> Held {
+        Held {
+            top: state.top,
+            counter: state.counter,
+            offset: state.offset,
+            refresh: state.refresh,
+            cycles: state.cycles,
+            update: u8::from(state.update),
+            page: u8::from(state.page),
+            video: u8::from(state.video),
+            inhibited: u8::from(state.inhibited),
+        }
     }
 }

@@ -5,8 +5,8 @@ use Rattle.std.proofs.Common.{sym, ◌∙◌}
 use Rattle.std.proofs.Math.Path.{ap}
 use Rattle.refusals.specs.Refusal.{partition_ok}
 use Rattle.vram.specs.declared.Vram.{Vram}
-use Rattle.vram.specs.declared.Clocked.{Clocked as VramClocked}
-use Rattle.vram.specs.declared.Answered.{Answered}
+use Rattle.vram.specs.Calls.{Clocked as VramClocked}
+use Rattle.vram.specs.Calls.{Answered}
 use Rattle.vram.specs.Calls.{clock_call as vram_clock}
 use Rattle.vram.proofs.CallLaws.{clock_refuses, clock_persistent}
 use Rattle.palette.specs.declared.Palette.{Palette}

@@ -1,8 +1,8 @@
 -- What the clock and the runs to the panel answer and leave, which take the video RAM's state from C: 1 where no `Vram` can be so, and else what
 -- the call below answers, with the state handed back. Assumes nothing.
 use Rattle.std.specs.Prelude.{ℕ, List}
-use Rattle.vram.specs.declared.Clocked.{Clocked as VramClocked}
-use Rattle.vram.specs.Calls.{clock_call as vram_clock}
+use Rattle.vram.specs.Calls.{Clocked as VramClocked}
+use Rattle.vram.specs.Calls.{Answered, clock_call as vram_clock}
 use Rattle.palette.specs.declared.Palette.{Palette}
 use Rattle.panel.specs.Panel.{widened, unwidened}
 use Rattle.panel.specs.Calls.{Outcome as PanelOutcome, run_call_by as panel_run_by}
@@ -28,8 +28,11 @@ pub record ShownTo : Type 0 where
 abbrev pub shown : Shown → List ℕ → ShownTo
 shown r out = record { answer = r; buffer = out }
 
+abbrev pub shown_by : Answered → Shown
+shown_by a = record { state = handed a.state; number = a.number }
+
 abbrev pub panel_answer : PanelOutcome → ShownTo
-panel_answer o = shown (record { state = handed o.answer.state; number = o.answer.number }) o.buffer
+panel_answer o = shown (shown_by o.answer) o.buffer
 
 -- by any rule of parts
 unfoldable pub panel_call_by : (ℕ → ℕ) → Registers → List ℕ → Palette → List ℕ → ℕ → ℕ → List ℕ → ShownTo

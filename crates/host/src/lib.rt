@@ -5,7 +5,7 @@
 
 ghost use Rattle.std.specs.Prelude.{◌≡◌};
 ghost use Rattle.vram.specs.State.{fresh as fresh_vram};
-ghost use Rattle.vram.specs.Calls.{word_read_call};
+ghost use Rattle.vram.specs.Calls.{answered_by, clocked_by, word_read_call};
 ghost use Rattle.palette.specs.State.{fresh as fresh_palette};
 ghost use Rattle.palette.specs.Calls.{outcome as accessed_outcome, write_call, read_call};
 ghost use Rattle.panel.specs.Panel.{part_at};
@@ -14,17 +14,18 @@ ghost use Rattle.planner.specs.Calls.{outcome as filled_outcome, fill_call};
 ghost use Rattle.planner.specs.Paint.{list_in, Demanded};
 ghost use Rattle.registers.specs.State.{handed};
 ghost use Rattle.registers.specs.Lists.{listed, list_call};
-ghost use Rattle.host.specs.Calls.{clock_call, shown, panel_call_by, panel_call, panel_six_call};
+ghost use Rattle.host.specs.Calls.{clock_answer, clock_call, shown_by, shown, panel_call_by, panel_call, panel_six_call};
 
+use numbers::{Refusal, number};
 use palette::{Accessed, Palette};
 use panel::Width;
 use planner::Filled;
-use registers::{Ran, Registers, hand, hand_ran, lawful, take};
+use registers::{Ran, Registers, excluded, hand, hand_ran};
 use vram::{Vram, Word};
 
 // The state after a run, and the number given back.
 #[repr(C)]
-#[derive(Clone, Copy)]
+#[derive(Clone, Copy, Debug, PartialEq, Eq)]
 pub struct Shown {
     pub state: Registers,
     pub number: u32,
@@ -32,11 +33,37 @@ pub struct Shown {
 
 // The state after a clock, the word answered, and the number given back.
 #[repr(C)]
-#[derive(Clone, Copy)]
+#[derive(Clone, Copy, Debug, PartialEq, Eq)]
 pub struct Clocked {
     pub state: Registers,
     pub word: u16,
     pub number: u32,
+}
+
+impl Shown {
+    // Of a run, and the state before it.
+    fn of(before: Vram, answer: Result<Vram, Refusal>) -> Shown
+        ensures { result ≡ shown_by (answered_by before answer) }
+    {
+        Shown {
+            state: hand(answer.unwrap_or(before)),
+            number: number(answer),
+        }
+    }
+}
+
+impl Clocked {
+    // Of a clock, and the state before it.
+    fn of(before: Vram, clocked: Result<(Vram, u16), Refusal>) -> Clocked
+        ensures { result ≡ clock_answer (clocked_by before clocked) }
+    {
+        let (after, word) = clocked.unwrap_or((before, 0));
+        Clocked {
+            state: hand(after),
+            word,
+            number: number(clocked),
+        }
+    }
 }
 
 // The registers at power-on.
@@ -90,14 +117,9 @@ pub fn linkshoar_list_run(
 ) -> Ran
     ensures { listed result memory.new serial.new ≡ list_call state memory.old serial.old list.now }
 {
-    if lawful(state) {
-        let ran = list::run(take(state), memory, serial, list);
-        return hand_ran(ran);
-    }
-    Ran {
-        state,
-        number: numbers::STATE_EXCLUDED,
-        place: 0,
+    match Vram::try_from(state) {
+        Ok(vram) => hand_ran(vram, list::run(vram, memory, serial, list)),
+        Err(refusal) => excluded(state, refusal),
     }
 }
 
@@ -112,18 +134,13 @@ pub fn linkshoar_word_read(memory: &[u16], row: u32, column: u32, strobes: u32) 
 pub fn linkshoar_serial_clock(state: Registers, serial: &[u16]) -> Clocked
     ensures { result ≡ clock_call state serial.now }
 {
-    if lawful(state) {
-        let clocked = take(state).clock(serial);
-        return Clocked {
-            state: hand(clocked.state),
-            word: clocked.word,
-            number: clocked.number,
-        };
-    }
-    Clocked {
-        state,
-        word: 0,
-        number: numbers::STATE_EXCLUDED,
+    match Vram::try_from(state) {
+        Ok(vram) => Clocked::of(vram, vram.clock(serial)),
+        Err(refusal) => Clocked {
+            state,
+            word: 0,
+            number: u32::from(refusal),
+        },
     }
 }
 
@@ -140,25 +157,15 @@ fn panel_run(
 ) -> Shown
     ensures { shown result out.new ≡ panel_call_by (part_at width) state serial.now palette table.now clocks blank out.old }
 {
-    if lawful(state) {
-        let answered = panel::run_at(
-            width,
-            take(state),
-            serial,
-            palette,
-            table,
-            clocks,
-            blank,
-            out,
-        );
-        return Shown {
-            state: hand(answered.state),
-            number: answered.number,
-        };
-    }
-    Shown {
-        state,
-        number: numbers::STATE_EXCLUDED,
+    match Vram::try_from(state) {
+        Ok(vram) => Shown::of(
+            vram,
+            panel::run_at(width, vram, serial, palette, table, clocks, blank, out),
+        ),
+        Err(refusal) => Shown {
+            state,
+            number: u32::from(refusal),
+        },
     }
 }
 
@@ -214,12 +221,15 @@ pub fn linkshoar_panel_run_six(
 pub fn linkshoar_palette_write(state: Palette, table: &mut [u8], select: u32, value: u8) -> Accessed
     ensures { accessed_outcome result table.new ≡ write_call state table.old select value }
 {
-    state.write(table, select, value)
+    Accessed::of(
+        state,
+        state.write(table, select, value).map(|left| (left, 0)),
+    )
 }
 
 // A palette read.
 pub fn linkshoar_palette_read(state: Palette, table: &[u8], select: u32) -> Accessed
     ensures { result ≡ read_call state table.now select }
 {
-    state.read(table, select)
+    Accessed::of(state, state.read(table, select))
 }

@@ -8,9 +8,9 @@ use Rattle.vram.specs.declared.Cycle.{Cycle}
 use Rattle.vram.specs.Board.{Board, effect}
 use Rattle.vram.specs.Step.{given_of, rows_of, Engine, step_by, run_by, run}
 use Rattle.vram.specs.StepLaws.{steps_same, runs_same}
-use Rattle.list.specs.declared.Bad.{Bad}
-use Rattle.list.specs.declared.Open.{Open}
-use Rattle.list.specs.declared.Open.TheVariants.{None}
+use Rattle.list.specs.Meaning.{Bad}
+use Rattle.std.specs.Prelude.{Option}
+use Rattle.std.specs.Prelude.Option.{None}
 use Rattle.list.specs.Fields.{Field, Reads, Unreadable, size_of, fields}
 use Rattle.list.specs.Open.{open_after, open_of}
 use Rattle.list.specs.Meaning.{number_of, made_by, bad, verdict, readable, cycles_of, left_behind, judged, verdict_of, gives, run_call_by, run_call}
@@ -26,7 +26,7 @@ accepted_readable rows made at (Reads c n ∷ fs) h =
     accepted_readable rows (made_by (Reads c n) made) (at + size_of (Reads c n)) fs (accepted_tail rows made at (Reads c n) fs h)
 accepted_readable rows made at (Unreadable ∷ fs) h = absurd (omega (arith, accepted_head rows made at Unreadable fs h))
 
-pub judged_readable : (rows : ℕ) (made : Bool) (left : Open) (at : ℕ) (fs : List Field) → (judged rows made left at fs).number ≡ 0 → readable fs ≡ true
+pub judged_readable : (rows : ℕ) (made : Bool) (left : Option ℕ) (at : ℕ) (fs : List Field) → (judged rows made left at fs).number ≡ 0 → readable fs ≡ true
 unfolding judged
 judged_readable rows made left at fs h =
     accepted_readable rows made at fs (bad_zero (verdict rows made at fs) (left_behind (open_after at fs left)) h).0

@@ -9,9 +9,9 @@ use Rattle.vram.specs.Refusal.{refusal}
 use Rattle.vram.specs.Kinds.{tag_of}
 use Rattle.vram.proofs.CaseLaws.{tag_word, tag_block, tag_colour}
 use Rattle.vram.specs.Step.{given_of, rows_of, run}
-use Rattle.list.specs.declared.Bad.{Bad}
+use Rattle.list.specs.Meaning.{Bad}
 use Rattle.list.specs.Tags.{len_of}
-use Rattle.list.specs.declared.Open.TheVariants.{None}
+use Rattle.std.specs.Prelude.Option.{None}
 use Rattle.list.specs.Fields.{Field, size_of}
 use Rattle.list.specs.Open.{open_after}
 use Rattle.list.proofs.OpenLaws.{open_nil, open_next, by_no_load}

@@ -7,9 +7,9 @@ use Rattle.vram.specs.Step.{given_of, rows_of, step, run}
 use Rattle.vram.specs.StepLaws.{run_append}
 use Rattle.vram.proofs.KeptLaws.{step_loaded}
 use Rattle.vram.proofs.CaseLaws.{run_none, run_next, run_rows, run_given}
-use Rattle.list.specs.declared.Bad.{Bad}
-use Rattle.list.specs.declared.Open.{Open}
-use Rattle.list.specs.declared.Open.TheVariants.{None, At}
+use Rattle.list.specs.Meaning.{Bad}
+use Rattle.std.specs.Prelude.{Option}
+use Rattle.std.specs.Prelude.Option.{None, Some}
 use Rattle.list.specs.Fields.{Field, Reads, Unreadable, size_of, fields}
 use Rattle.list.proofs.FieldLaws.{fields_append}
 use Rattle.list.specs.Open.{open_after, open_of}
@@ -39,11 +39,11 @@ verdict_append rows made at (f ∷ fs) gs h =
     ∙ ap (λ (n : ℕ). verdict rows (made_by_all fs (made_by f made)) n gs) (add_assoc at (size_of f) (sizes fs))
 
 -- fields that pass, then others: those are judged with what the first have left
-pub judged_append : (rows : ℕ) (made : Bool) (left : Open) (at : ℕ) (fs gs : List Field) → (verdict rows made at fs).number ≡ 0
+pub judged_append : (rows : ℕ) (made : Bool) (left : Option ℕ) (at : ℕ) (fs gs : List Field) → (verdict rows made at fs).number ≡ 0
     → judged rows made left at (fs ++ gs) ≡ judged rows (made_by_all fs made) (open_after at fs left) (at + sizes fs) gs
 unfolding judged
 judged_append rows made left at fs gs h =
-    ap₂ (λ (v : Bad) (o : Open). first_bad v (left_behind o)) (verdict_append rows made at fs gs h) (open_append at fs gs left)
+    ap₂ (λ (v : Bad) (o : Option ℕ). first_bad v (left_behind o)) (verdict_append rows made at fs gs h) (open_append at fs gs left)
 
 -- ---- fields further on in the bytes
 
@@ -76,12 +76,12 @@ further_first n v later = go (eqb v.number 0) refl
     go true q = refl
     go false q = rw q
 
-further_left : (n : ℕ) (left : Open) → left_behind (further_open n left) ≡ further n (left_behind left)
+further_left : (n : ℕ) (left : Option ℕ) → left_behind (further_open n left) ≡ further n (left_behind left)
 unfolding left_behind further
 further_left n None = refl
-further_left n (At place) = refl
+further_left n (Some place) = refl
 
-pub judged_further : (n rows : ℕ) (made : Bool) (left : Open) (at : ℕ) (fs : List Field)
+pub judged_further : (n rows : ℕ) (made : Bool) (left : Option ℕ) (at : ℕ) (fs : List Field)
     → judged rows made (further_open n left) (n + at) fs ≡ further n (judged rows made left at fs)
 unfolding judged
 judged_further n rows made left at fs =
@@ -113,7 +113,7 @@ module _ (a b : List ℕ) (r : readable (fields a) ≡ true) where
       ∙ open_append 0 (fields a) (fields b) None
       ∙ ap (λ (n : ℕ). open_after n (fields b) (open_of a)) e
       ∙ open_from (length a + 0) (fields b) (open_of a)
-      ∙ ap (λ (o : Open). cond (decided (fields b)) o (open_of a)) (open_further (length a) 0 (fields b) None)
+      ∙ ap (λ (o : Option ℕ). cond (decided (fields b)) o (open_of a)) (open_further (length a) 0 (fields b) None)
 
 -- ---- a list whose fields pass, then another
 
@@ -157,7 +157,7 @@ module _ (a b : List ℕ) (x : Board) (h : (verdict_of a x).number ≡ 0) where
       let y = (run_call a x).after in
       joined_judged a x (list_passes a x h) b
       ∙ ap (λ (z : Board). judged (rows_of z) z.state.loaded (open_of a) (length a) (fields b)) (sym (call_runs a x h))
-      ∙ ap₂ (λ (o : Open) (n : ℕ). judged (rows_of y) y.state.loaded o n (fields b)) (accepted_closed a x h) (sym (add-zero (length a)))
+      ∙ ap₂ (λ (o : Option ℕ) (n : ℕ). judged (rows_of y) y.state.loaded o n (fields b)) (accepted_closed a x h) (sym (add-zero (length a)))
       ∙ judged_further (length a) (rows_of y) y.state.loaded None 0 (fields b)
       ∙ ap (further (length a)) (sym (verdict_judged b y (call_given_kept a x h)))
 

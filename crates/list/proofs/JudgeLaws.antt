@@ -4,9 +4,9 @@ use Rattle.std.proofs.Common.{sym, ap, ◌∙◌, arith, eq-eqb, ne_eqb, eqb-tru
 use Rattle.std.proofs.Math.Path.{ap₂}
 use Rattle.std.proofs.Math.Bool.{true, false}
 use Rattle.std.proofs.lemmas.Bool.{eqb-false}
-use Rattle.list.specs.declared.Bad.{Bad}
-use Rattle.list.specs.declared.Open.{Open}
-use Rattle.list.specs.declared.Open.TheVariants.{None, At}
+use Rattle.list.specs.Meaning.{Bad}
+use Rattle.std.specs.Prelude.{Option}
+use Rattle.std.specs.Prelude.Option.{None, Some}
 use Rattle.list.specs.Fields.{Field, size_of}
 use Rattle.list.specs.Open.{open_by, open_after}
 use Rattle.list.proofs.OpenLaws.{open_nil, open_next}
@@ -47,19 +47,19 @@ pub left_none : left_behind None ≡ bad 0 0
 unfolding left_behind
 left_none = refl
 
-pub left_at : (place : ℕ) → left_behind (At place) ≡ bad 20 place
+pub left_at : (place : ℕ) → left_behind (Some place) ≡ bad 20 place
 unfolding left_behind
 left_at place = refl
 
 -- nothing is refused where none is open
-pub left_zero : (left : Open) → (left_behind left).number ≡ 0 → left ≡ None
+pub left_zero : (left : Option ℕ) → (left_behind left).number ≡ 0 → left ≡ None
 unfolding left_behind
 left_zero None h = refl
-left_zero (At place) h = absurd (omega arith)
+left_zero (Some place) h = absurd (omega arith)
 
 -- ---- field by field
 
-module _ (rows : ℕ) (made : Bool) (left : Open) (at : ℕ) where
+module _ (rows : ℕ) (made : Bool) (left : Option ℕ) (at : ℕ) where
   -- a refused field decides, and where there is none what is left behind
   module _ (fs : List Field) where
     pub judged_refused : (verdict rows made at fs).number ≢ 0 → judged rows made left at fs ≡ verdict rows made at fs
@@ -76,7 +76,7 @@ module _ (rows : ℕ) (made : Bool) (left : Open) (at : ℕ) where
   module _ (f : Field) (fs : List Field) where
     pub judged_good : number_of rows made f ≡ 0 → judged rows made left at (f ∷ fs) ≡ judged rows (made_by f made) (open_by at f left) (at + size_of f) fs
     unfolding judged
-    judged_good h = ap₂ (λ (v : Bad) (o : Open). first_bad v (left_behind o)) (verdict_good rows made at f fs h) (open_next at f fs left)
+    judged_good h = ap₂ (λ (v : Bad) (o : Option ℕ). first_bad v (left_behind o)) (verdict_good rows made at f fs h) (open_next at f fs left)
 
     pub judged_bad : number_of rows made f ≢ 0 → judged rows made left at (f ∷ fs) ≡ bad (number_of rows made f) at
     judged_bad h =

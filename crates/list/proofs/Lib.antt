@@ -1,6 +1,8 @@
 -- What belongs to no one function.
 pub mod Turns
 pub mod Once
+-- an answer is known by its verdict and what it leaves
+pub mod VerdictAnswer
 -- of the splitting, for fields of any kind
 pub mod SplitLaws
 -- of the splitting into fields

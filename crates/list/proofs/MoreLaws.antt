@@ -5,7 +5,7 @@ use Rattle.std.proofs.lemmas.List.{drop-append-le}
 use Rattle.std.proofs.lemmas.Bool.{eqb-false}
 use Rattle.vram.specs.Board.{Board}
 use Rattle.vram.specs.Step.{given_of, rows_of}
-use Rattle.list.specs.declared.Bad.{Bad}
+use Rattle.list.specs.Meaning.{Bad}
 use Rattle.list.specs.Tags.{len_of}
 use Rattle.list.specs.Fields.{Field, Unreadable, tag, whole, field_of, size_of, fields}
 use Rattle.list.proofs.FieldLaws.{tag_append, whole_length, whole_append, field_append, fields_nil, fields_whole, fields_not}

@@ -5,8 +5,8 @@ use Rattle.numbers.specs.Refuse.{leaves}
 use Rattle.numbers.specs.RefuseLaws.{leaves_made, leaves_before}
 use Rattle.vram.specs.Board.{Board}
 use Rattle.vram.specs.Step.{given_of, rows_of, Engine, step_by, run_by}
-use Rattle.list.specs.declared.Bad.{Bad}
-use Rattle.list.specs.declared.Open.TheVariants.{None}
+use Rattle.list.specs.Meaning.{Bad}
+use Rattle.std.specs.Prelude.Option.{None}
 use Rattle.list.specs.Fields.{fields}
 use Rattle.list.specs.Meaning.{bad, judged, cycles_of, Outcome, gives, run_call_by}
 use Rattle.list.proofs.CallLaws.{call_first_by, call_checked_by}

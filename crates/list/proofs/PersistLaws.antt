@@ -8,9 +8,9 @@ use Rattle.vram.specs.Kinds.{tag_of, persists}
 use Rattle.vram.specs.Step.{step, run}
 use Rattle.vram.proofs.KeptLaws.{step_persistent}
 use Rattle.vram.proofs.CaseLaws.{run_none, run_next, persists_tag}
-use Rattle.list.specs.declared.Bad.{Bad}
-use Rattle.list.specs.declared.Open.{Open}
-use Rattle.list.specs.declared.Open.TheVariants.{None, At}
+use Rattle.list.specs.Meaning.{Bad}
+use Rattle.std.specs.Prelude.{Option}
+use Rattle.std.specs.Prelude.Option.{None, Some}
 use Rattle.list.specs.Fields.{Field, Reads, Unreadable, size_of, fields}
 use Rattle.list.specs.Open.{opens, open_by, open_after, open_of, is_open}
 use Rattle.list.proofs.OpenLaws.{open_nil, open_next, open_from}
@@ -21,17 +21,17 @@ use Rattle.list.proofs.CallLaws.{verdict_left, accepted_closed, call_runs, call_
 
 -- ---- the mask is persistent where a mask load is open
 
-after_cycle : (at : ℕ) (c : Cycle) (left : Open) → persists c (is_open left) ≡ is_open (opens (tag_of c) at left)
+after_cycle : (at : ℕ) (c : Cycle) (left : Option ℕ) → persists c (is_open left) ≡ is_open (opens (tag_of c) at left)
 unfolding opens
 after_cycle at c left = persists_tag c (is_open left) ∙ go (eqb (tag_of c) 4) (eqb (tag_of c) 5)
   where
-    go : (p q : Bool) → cond p true (cond q false (is_open left)) ≡ is_open (cond p (At at) (cond q None left))
+    go : (p q : Bool) → cond p true (cond q false (is_open left)) ≡ is_open (cond p (Some at) (cond q None left))
     go true q = refl
     go false true = refl
     go false false = refl
 
 -- if it was so before some fields that pass, it is so after them
-pub open_persistent : (at : ℕ) (fs : List Field) (left : Open) (b : Board) → Passes at fs b → b.state.persistent ≡ is_open left
+pub open_persistent : (at : ℕ) (fs : List Field) (left : Option ℕ) (b : Board) → Passes at fs b → b.state.persistent ≡ is_open left
     → (run (cycles fs) b).state.persistent ≡ is_open (open_after at fs left)
 unfolding cycles open_by
 open_persistent at [] left b a e = ap (λ (x : Board). x.state.persistent) (run_none step b) ∙ e ∙ ap is_open (sym (open_nil at left))
@@ -48,24 +48,24 @@ pub fields_persistent : (at : ℕ) (fs : List Field) (b : Board) → Passes at f
     → (run (cycles fs) b).state.persistent ≡ cond (decided fs) (is_open (open_after at fs None)) b.state.persistent
 fields_persistent at fs b a = go b.state.persistent refl
   where
-    chosen : (d : Bool) (o left : Open) → is_open (cond d o left) ≡ cond d (is_open o) (is_open left)
+    chosen : (d : Bool) (o left : Option ℕ) → is_open (cond d o left) ≡ cond d (is_open o) (is_open left)
     chosen true o left = refl
     chosen false o left = refl
 
-    from : (left : Open) → b.state.persistent ≡ is_open left
+    from : (left : Option ℕ) → b.state.persistent ≡ is_open left
         → (run (cycles fs) b).state.persistent ≡ cond (decided fs) (is_open (open_after at fs None)) (is_open left)
     from left e = open_persistent at fs left b a e ∙ ap is_open (open_from at fs left) ∙ chosen (decided fs) (open_after at fs None) left
 
     go : (t : Bool) → b.state.persistent ≡ t → (run (cycles fs) b).state.persistent ≡ cond (decided fs) (is_open (open_after at fs None)) t
-    go true e = from (At 0) e
+    go true e = from (Some 0) e
     go false e = from None e
 
 -- ---- a list
 
-is_open_number : (left : Open) → eqb (left_behind left).number 20 ≡ is_open left
+is_open_number : (left : Option ℕ) → eqb (left_behind left).number 20 ≡ is_open left
 unfolding left_behind
 is_open_number None = refl
-is_open_number (At place) = refl
+is_open_number (Some place) = refl
 
 module _ (list : List ℕ) (b : Board) where
   -- an accepted list with a mask load or a reset refresh ends with the mask not persistent, any other leaves persistence as it was
@@ -73,7 +73,7 @@ module _ (list : List ℕ) (b : Board) where
   call_persistent h =
       ap (λ (x : Board). x.state.persistent) (call_runs list b h)
       ∙ fields_persistent 0 (fields list) b (list_passes list b h)
-      ∙ ap (λ (o : Open). cond (decided (fields list)) (is_open o) b.state.persistent) (accepted_closed list b h)
+      ∙ ap (λ (o : Option ℕ). cond (decided (fields list)) (is_open o) b.state.persistent) (accepted_closed list b h)
 
   module _ (plain : b.state.persistent ≡ false) where
     -- of the lists whose fields pass, 20 refuses just those whose run would leave the mask persistent

@@ -7,9 +7,9 @@ use Rattle.refusals.specs.RefusalLaws.{refusing_most}
 use Rattle.vram.specs.Board.{Board}
 use Rattle.vram.specs.Step.{given_of, rows_of}
 use Rattle.vram.specs.RefusalLaws.{given_most}
-use Rattle.list.specs.declared.Bad.{Bad}
-use Rattle.list.specs.declared.Open.{Open}
-use Rattle.list.specs.declared.Open.TheVariants.{None, At}
+use Rattle.list.specs.Meaning.{Bad}
+use Rattle.std.specs.Prelude.{Option}
+use Rattle.std.specs.Prelude.Option.{None, Some}
 use Rattle.list.specs.Tags.{len_of}
 use Rattle.list.specs.Fields.{Field, Unreadable, tag, whole, field_of, size_of, fields}
 use Rattle.list.proofs.FieldLaws.{whole_length, fields_nil, fields_whole, fields_not}
@@ -78,9 +78,9 @@ place_in (suc n) rows made at s h =
 left_in : (list : List ℕ) → readable (fields list) ≡ true → (left_behind (open_of list)).place ≤ length list
 left_in list r = open_most (length list) 0 (fields list) None (omega (arith, sizes_all list r)) (rw left_none (omega arith))
 
-left_most : (left : Open) → (left_behind left).number ≤ 20
+left_most : (left : Option ℕ) → (left_behind left).number ≤ 20
 left_most None = rw left_none (omega arith)
-left_most (At place) = rw (left_at place) (omega arith)
+left_most (Some place) = rw (left_at place) (omega arith)
 
 pub call_most : (list : List ℕ) (b : Board) → ((verdict_of list b).number ≤ 20) × ((verdict_of list b).place ≤ length list)
 call_most list b = go (eqb (given_of b) 0) refl (eqb fields_in.number 0) refl
@@ -103,20 +103,20 @@ call_most list b = go (eqb (given_of b) 0) refl (eqb fields_in.number 0) refl
 
 -- ---- 20 is given where, and only where, all else passes and a mask load is left open; the place is its offset
 
-opened : (left : Open) → (left_behind left).number ≡ 20 → left ≡ At (left_behind left).place
+opened : (left : Option ℕ) → (left_behind left).number ≡ 20 → left ≡ Some (left_behind left).place
 unfolding left_behind
 opened None e = absurd (omega arith)
-opened (At place) e = refl
+opened (Some place) e = refl
 
 module _ (list : List ℕ) (b : Board) where
-  pub left_refused : Passes 0 (fields list) b → (place : ℕ) → open_of list ≡ At place → verdict_of list b ≡ bad 20 place
+  pub left_refused : Passes 0 (fields list) b → (place : ℕ) → open_of list ≡ Some place → verdict_of list b ≡ bad 20 place
   left_refused a place e = verdict_left list b a.given a.none ∙ ap left_behind e ∙ left_at place
 
-  pub refused_left : (verdict_of list b).number ≡ 20 → Passes 0 (fields list) b × (open_of list ≡ At (verdict_of list b).place)
+  pub refused_left : (verdict_of list b).number ≡ 20 → Passes 0 (fields list) b × (open_of list ≡ Some (verdict_of list b).place)
   refused_left h = go (eqb (given_of b) 0) refl (eqb (verdict (rows_of b) b.state.loaded 0 (fields list)).number 0) refl
     where
       go : (t : Bool) → eqb (given_of b) 0 ≡ t → (u : Bool) → eqb (verdict (rows_of b) b.state.loaded 0 (fields list)).number 0 ≡ u
-          → Passes 0 (fields list) b × (open_of list ≡ At (verdict_of list b).place)
+          → Passes 0 (fields list) b × (open_of list ≡ Some (verdict_of list b).place)
       go false e u f =
           let v = ap (λ (w : Bad). w.number) (verdict_given list b (eqb-false _ _ e)) in
           absurd (omega (arith, given_most b.state (length b.memory) (length b.serial), v, h))
@@ -126,5 +126,5 @@ module _ (list : List ℕ) (b : Board) where
       go true e true f =
           let v = verdict_left list b (eqb-true _ _ e) (eqb-true _ _ f) in (
             record { given = eqb-true _ _ e; none = eqb-true _ _ f },
-            opened (open_of list) (sym (ap (λ (w : Bad). w.number) v) ∙ h) ∙ ap (λ (w : Bad). At w.place) (sym v),
+            opened (open_of list) (sym (ap (λ (w : Bad). w.number) v) ∙ h) ∙ ap (λ (w : Bad). Some w.place) (sym v),
           )

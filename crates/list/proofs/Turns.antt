@@ -1,21 +1,21 @@
 -- One turn of each loop, in the terms that the code has: s is what is left of the list, n its first body's length. Assumes nothing.
-use Rattle.std.proofs.Common.{◌≡◌, refl, sym, ap, ap₂, ◌∙◌, Bool, true, false, ◌||◌, List, [], ◌∷◌, ◌≢◌, ℕ, ◌+◌, ◌-◌, ◌≤◌, ◌<◌, arith, eqb, length, take, drop, length-drop, take_all, ne_eqb}
+use Rattle.std.proofs.Common.{◌≡◌, refl, sym, ap, ap₂, ◌∙◌, Bool, true, false, ◌||◌, List, [], ◌∷◌, ◌≢◌, ℕ, ◌+◌, ◌-◌, ◌≤◌, ◌<◌, arith, eqb, length, take, drop, length-drop, take_all, cond, eqb-true, ne_eqb}
 use Rattle.vram.specs.declared.Cycle.{Cycle}
 use Rattle.vram.specs.Board.{Board}
 use Rattle.vram.specs.Refusal.{refusal}
 use Rattle.vram.specs.Step.{step, run}
 use Rattle.vram.specs.Calls.{Outcome, cycle_call}
 use Rattle.vram.proofs.CaseLaws.{cycle_after, run_none, run_next}
-use Rattle.list.specs.declared.Bad.{Bad}
-use Rattle.list.specs.declared.Open.{Open}
+use Rattle.list.specs.Meaning.{Bad}
+use Rattle.std.specs.Prelude.{Option}
 use Rattle.list.specs.Tags.{len_of, cycle_of}
 use Rattle.list.specs.Fields.{tag, body, whole, field_of, size_of, fields}
 use Rattle.list.proofs.FieldLaws.{whole_length, fields_nil, fields_whole, fields_not, field_not, readable_head, readable_tail}
 use Rattle.list.specs.Open.{opens}
 use Rattle.list.proofs.OpenLaws.{open_whole}
-use Rattle.list.specs.Meaning.{number_of, bad, readable, left_behind, first_bad, judged, cycles_of}
+use Rattle.list.specs.Meaning.{number_of, bad, bad_at, readable, left_behind, judged, cycles_of}
 use Rattle.list.proofs.VerdictLaws.{size_whole, number_whole, made_whole, cycles_whole, accepted_whole, cycles_nil}
-use Rattle.list.proofs.JudgeLaws.{bad_first, bad_later, judged_nil, judged_good, judged_bad}
+use Rattle.list.proofs.JudgeLaws.{judged_nil, judged_good, judged_bad}
 
 -- ---- parts of a slice
 
@@ -53,49 +53,67 @@ fill_loads t made h = rw (ne_eqb t 6 (λ e. omega arith)) (go made)
     go true = refl
     go false = refl
 
-pub fill_opens : (t at : ℕ) (left : Open) → t ≤ 3 → left ≡ opens t at left
+pub fill_opens : (t at : ℕ) (left : Option ℕ) → t ≤ 3 → left ≡ opens t at left
 unfolding opens
 fill_opens t at left h = rw (ne_eqb t 4 (λ e. omega arith), ne_eqb t 5 (λ e. omega arith))
 
--- ---- the checking loop; k is the number of the field, v what the loop yields and r what is answered
+-- a field that gives zeros is not refused
+pub at_zero : (number place : ℕ) → bad 0 0 ≡ bad_at number place → number ≡ 0
+at_zero number place e = go (eqb number 0) refl e
+  where
+    go : (t : Bool) → eqb number 0 ≡ t → bad 0 0 ≡ cond t (bad 0 0) (bad number place) → number ≡ 0
+    go true q h = eqb-true number 0 q
+    go false q h = sym (ap (λ (x : Bad). x.number) h)
 
-module _ (rows : ℕ) (made : Bool) (left : Open) (s : List ℕ) where
-  module _ (v w r : Bad) (f : r ≡ first_bad v w) (at : ℕ) where
-    pub end_check : length s ≡ 0 → v ≡ bad 0 0 → w ≡ left_behind left → r ≡ judged rows made left at (fields s)
-    end_check h a b =
-        f ∙ bad_later v w (ap (λ (x : Bad). x.number) a) ∙ b ∙ sym (ap (judged rows made left at) (fields_nil s (omega arith)) ∙ judged_nil rows made left at)
+-- ---- the checking loop; v is what is answered
 
-    pub turn_bad : length s ≢ 0 → (k : ℕ) → k ≡ number_of rows made (field_of s) → k ≢ 0 → v ≡ bad k at → r ≡ judged rows made left at (fields s)
-    turn_bad p k e h a = f ∙ bad_first v w (λ z. h (sym (ap (λ (x : Bad). x.number) a) ∙ z)) ∙ a ∙ go (whole s) refl
+module _ (rows : ℕ) (made : Bool) (left : Option ℕ) (s : List ℕ) where
+  module _ (v : Bad) (at : ℕ) where
+    pub end_check : length s ≡ 0 → v ≡ left_behind left → v ≡ judged rows made left at (fields s)
+    end_check h e = e ∙ sym (ap (judged rows made left at) (fields_nil s (omega arith)) ∙ judged_nil rows made left at)
+
+    pub turn_bad : 0 < length s → v.number ≢ 0 → v ≡ bad_at (number_of rows made (field_of s)) at → v ≡ judged rows made left at (fields s)
+    turn_bad p h e = e ∙ given ∙ go (whole s) refl
       where
+        k : ℕ
+        k = number_of rows made (field_of s)
+
+        some : k ≢ 0
+        some z = h (ap (λ (x : Bad). x.number) (e ∙ ap (λ (n : ℕ). bad_at n at) z))
+
+        given : bad_at k at ≡ bad k at
+        given = simp (ne_eqb k 0 some)
+
         refused : (fs : _) → fields s ≡ field_of s ∷ fs → bad k at ≡ judged rows made left at (fields s)
-        refused fs q = ap (λ (x : ℕ). bad x at) e ∙ sym (ap (judged rows made left at) q ∙ judged_bad rows made left at (field_of s) fs (λ z. h (e ∙ z)))
+        refused fs q = sym (ap (judged rows made left at) q ∙ judged_bad rows made left at (field_of s) fs some)
 
         go : (t : Bool) → whole s ≡ t → bad k at ≡ judged rows made left at (fields s)
         go true q = refused _ (fields_whole s q)
-        go false q = refused [] (rw (field_not s q) (fields_not s (omega arith) q))
+        go false q = refused [] (rw (field_not s q) (fields_not s p q))
 
-  module _ (k : ℕ) (e : k ≡ number_of rows made (field_of s)) where
-    module _ (z : k ≡ 0) (n : ℕ) (m : n ≡ len_of (tag s)) where
-      good : whole s ≡ true
-      good = accepted_whole s rows made (sym e ∙ z)
+  module _ (at : ℕ) (e : bad 0 0 ≡ bad_at (number_of rows made (field_of s)) at) (n : ℕ) (m : n ≡ len_of (tag s)) where
+    z : number_of rows made (field_of s) ≡ 0
+    z = at_zero (number_of rows made (field_of s)) at e
 
-      pub turn_fits : 3 + n ≤ length s
-      turn_fits = omega (arith, whole_length s good)
+    good : whole s ≡ true
+    good = accepted_whole s rows made z
 
-      pub turn_good : (total : ℕ) → length s ≤ total → (m' : Bool) (o : Open) → m' ≡ (made || eqb (tag s) 6) → o ≡ opens (tag s) (total - length s) left
-          → judged rows m' o (total - length (take (length s - (3 + n)) (drop (3 + n) s))) (fields (take (length s - (3 + n)) (drop (3 + n) s)))
-          ≡ judged rows made left (total - length s) (fields s)
-      turn_good total l m' o t u =
-          let f = turn_fits in
-          let r = rest_length s n m in
-          let y = size_whole s good in
-          let at = total - length s in
-          let a : total - length (take (length s - (3 + n)) (drop (3 + n) s)) ≡ at + size_of (field_of s) = omega arith in
-          ap₂ (judged rows m' o) a (ap fields (rest_part s n m))
-          ∙ ap₂ (λ (y : Bool) (x : Open). judged rows y x (at + size_of (field_of s)) (fields (drop (3 + len_of (tag s)) s))) (t ∙ sym (made_whole s good made))
-          (u ∙ sym (open_whole s good at left))
-          ∙ sym (ap (judged rows made left at) (fields_whole s good) ∙ judged_good rows made left at (field_of s) _ (sym e ∙ z))
+    pub turn_fits : 3 + n ≤ length s
+    turn_fits = omega (arith, whole_length s good)
+
+    pub turn_good : (total : ℕ) → length s ≤ total → (m' : Bool) (o : Option ℕ) → m' ≡ (made || eqb (tag s) 6) → o ≡ opens (tag s) (total - length s) left
+        → judged rows m' o (total - length (take (length s - (3 + n)) (drop (3 + n) s))) (fields (take (length s - (3 + n)) (drop (3 + n) s)))
+        ≡ judged rows made left (total - length s) (fields s)
+    turn_good total l m' o t u =
+        let f = turn_fits in
+        let r = rest_length s n m in
+        let y = size_whole s good in
+        let at = total - length s in
+        let a : total - length (take (length s - (3 + n)) (drop (3 + n) s)) ≡ at + size_of (field_of s) = omega arith in
+        ap₂ (judged rows m' o) a (ap fields (rest_part s n m))
+        ∙ ap₂ (λ (y : Bool) (x : Option ℕ). judged rows y x (at + size_of (field_of s)) (fields (drop (3 + len_of (tag s)) s))) (t ∙ sym (made_whole s good made))
+        (u ∙ sym (open_whole s good at left))
+        ∙ sym (ap (judged rows made left at) (fields_whole s good) ∙ judged_good rows made left at (field_of s) _ z)
 
 -- ---- the running loop
 

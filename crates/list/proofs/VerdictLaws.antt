@@ -8,7 +8,7 @@ use Rattle.refusals.specs.Refusal.{refusing}
 use Rattle.vram.specs.declared.Cycle.{Cycle}
 use Rattle.vram.specs.Refusal.{refusal}
 use Rattle.vram.specs.Kinds.{loads}
-use Rattle.list.specs.declared.Bad.{Bad}
+use Rattle.list.specs.Meaning.{Bad}
 use Rattle.vram.proofs.CaseLaws.{refusal_range}
 use Rattle.list.specs.Tags.{len_of, cycle_of}
 use Rattle.list.specs.TagLaws.{cycle_loads}

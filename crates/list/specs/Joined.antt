@@ -1,9 +1,9 @@
 -- What fields leave together, and a verdict on bytes that stand further on. Assumes nothing.
 use Rattle.std.specs.Prelude.{ℕ, ◌+◌, Bool, false, ◌||◌, cond, List, [], ◌∷◌, eqb}
 use Rattle.vram.specs.Kinds.{tag_of}
-use Rattle.list.specs.declared.Bad.{Bad}
-use Rattle.list.specs.declared.Open.{Open}
-use Rattle.list.specs.declared.Open.TheVariants.{None, At}
+use Rattle.list.specs.Meaning.{Bad}
+use Rattle.std.specs.Prelude.{Option}
+use Rattle.std.specs.Prelude.Option.{None, Some}
 use Rattle.list.specs.Fields.{Field, Reads, Unreadable, size_of}
 use Rattle.list.specs.Meaning.{made_by, bad}
 
@@ -22,9 +22,9 @@ unfoldable pub further : ℕ → Bad → Bad
 further n v = cond (eqb v.number 0) (bad 0 0) (bad v.number (n + v.place))
 
 -- and an open mask load
-abbrev pub further_open : ℕ → Open → Open
+abbrev pub further_open : ℕ → Option ℕ → Option ℕ
 further_open n None = None
-further_open n (At place) = At (n + place)
+further_open n (Some place) = Some (n + place)
 
 -- a field decides what is open: it is a mask load (tag 4) or a reset refresh (tag 5)
 unfoldable pub decides : Field → Bool

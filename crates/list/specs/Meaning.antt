@@ -1,16 +1,18 @@
 -- What a list is answered with and what it leaves: document 01, "Lists and fills" and "Numbers given back", and change request M-111. The
 -- cycles are known by what `vram` says of them: `refusal`, `loads`, `run`. Assumes nothing.
 use Rattle.std.specs.Prelude.{ℕ, ◌+◌, Bool, true, false, cond, List, [], ◌∷◌, eqb, length}
+use Rattle.numbers.specs.Refusal.{number_of as number_of_refusal, left_by}
 use Rattle.numbers.specs.Refuse.{leaves}
+use Rattle.vram.specs.declared.Vram.{Vram}
 use Rattle.vram.specs.declared.Cycle.{Cycle}
 use Rattle.vram.specs.Board.{Board, board, effect}
 use Rattle.vram.specs.Refusal.{refusal}
 use Rattle.vram.specs.Kinds.{loads}
 use Rattle.vram.specs.Step.{given_of, rows_of, Engine, step_by, run_by}
-use Rattle.list.specs.declared.Bad.{Bad}
-use Rattle.list.specs.declared.Open.{Open}
-use Rattle.list.specs.declared.Open.TheVariants.{None, At}
-use Rattle.list.specs.declared.Ran.{Ran}
+use Rattle.std.specs.Prelude.{Option, Result}
+use Rattle.std.specs.Prelude.Result.{Ok, Err}
+use Rattle.std.specs.Prelude.Option.{None, Some}
+use Rattle.list.specs.declared.Refused.{Refused}
 use Rattle.list.specs.Fields.{Field, Reads, Unreadable, size_of, fields}
 use Rattle.list.specs.Open.{open_after}
 
@@ -28,8 +30,22 @@ made_by Unreadable made = made
 
 -- ---- fields in order
 
+-- the number that a list is refused with and the offset of the field that it is about; zeros where nothing is refused
+pub record Bad : Type 0 where
+  pub number : ℕ
+  pub place : ℕ
+
 abbrev pub bad : ℕ → ℕ → Bad
 bad number place = record { number = number; place = place }
+
+-- what the field at an offset gives, where its number is this
+abbrev pub bad_at : ℕ → ℕ → Bad
+bad_at number place = cond (eqb number 0) (bad 0 0) (bad number place)
+
+-- what an answer says of a list
+abbrev pub bad_of : {T : Type 0} → Result T Refused → Bad
+bad_of (Ok _) = bad 0 0
+bad_of (Err refused) = bad (number_of_refusal refused.refusal) refused.place
 
 -- the first field that is refused: its number and its offset. `at` is the offset of the first field given
 unfoldable pub verdict : ℕ → Bool → ℕ → List Field → Bad
@@ -54,16 +70,16 @@ readable (Unreadable ∷ fs) = false
 -- ---- what is left behind
 
 -- 20 for an open mask load, at its offset
-unfoldable pub left_behind : Open → Bad
+unfoldable pub left_behind : Option ℕ → Bad
 left_behind None = bad 0 0
-left_behind (At place) = bad 20 place
+left_behind (Some place) = bad 20 place
 
 -- of two verdicts the first that refuses
 unfoldable pub first_bad : Bad → Bad → Bad
 first_bad v later = cond (eqb v.number 0) later v
 
 -- fields in order, and then what they leave behind. `made`, `left` and `at` are what those before them have left
-unfoldable pub judged : ℕ → Bool → Open → ℕ → List Field → Bad
+unfoldable pub judged : ℕ → Bool → Option ℕ → ℕ → List Field → Bad
 judged rows made left at fs = first_bad (verdict rows made at fs) (left_behind (open_after at fs left))
 
 -- ---- a list
@@ -88,6 +104,16 @@ pub record Outcome : Type 0 where
 
 abbrev pub gives : Bad → Board → Outcome
 gives v b = record { given = v; after = b }
+
+-- the state after a list, the number given back, and the offset of the field that it is about
+pub record Ran : Type 0 where
+  pub state : Vram
+  pub number : ℕ
+  pub place : ℕ
+
+-- what a list answers, of the state before it
+abbrev pub ran_by : Vram → Result Vram Refused → Ran
+ran_by before answer = record { state = left_by before answer; number = (bad_of answer).number; place = (bad_of answer).place }
 
 abbrev pub outcome : Ran → List ℕ → List ℕ → Outcome
 outcome r m q = gives (bad r.number r.place) (board r.state m q)

@@ -4,22 +4,15 @@ ghost use Rattle.list.specs.Tags.{word, known, len_of};
 ghost use Rattle.list.specs.Fields.{headed, whole};
 ghost use Rattle.list.specs.Waits.{waits};
 
-// A byte with room above it.
-pub(crate) fn wide(byte: u8) -> u16
-    ensures { (result ≡ byte) × (result < 256) }
-{
-    byte as u16
-}
-
 // The number of two bytes at a place, high byte first.
 pub(crate) fn word_at(bytes: &[u8], at: usize) -> u16
     requires { at + 1 < length bytes.now }
     ensures { result ≡ word bytes.now at }
 {
-    wide(bytes[at]) * 256 + wide(bytes[at + 1])
+    u16::from(bytes[at]) * 256 + u16::from(bytes[at + 1])
 }
 
-// The tags are 1 to 7, and 9.
+// The tags are 1 to 7, and 9. A tag stays a byte: its body's length is asked before it is known, and `left::opens` answers for any byte.
 fn known(tag: u8) -> bool
     ensures { result ≡ known tag }
 {

@@ -1,44 +1,33 @@
 // What a list leaves behind: change request M-111. A mask load is open until a reset refresh comes.
 ghost use Rattle.std.specs.Prelude.{◌≡◌};
 ghost use Rattle.list.specs.Open.{opens};
-ghost use Rattle.list.specs.Meaning.{left_behind, first_bad};
+ghost use Rattle.list.specs.Meaning.{bad_of, left_behind};
 
-use crate::{Bad, Open};
+use crate::Refused;
+use numbers::Refusal;
 
 // The open mask load after a field, by its tag: a mask load (4) is open from its offset on, a reset refresh (5) leaves none open.
-pub fn opens(tag: u8, at: u64, left: Open) -> Open
+#[tactic(auto, unfolding(crate::specs::Open::opens))]
+pub fn opens(tag: u8, at: u64, left: Option<u64>) -> Option<u64>
     ensures { result ≡ opens tag at left }
 {
     match tag {
-        4 => Open::At(at),
-        5 => Open::None,
+        4 => Some(at),
+        5 => None,
         _ => left,
     }
 }
 
 // 20 for an open mask load, at its offset.
-pub fn left_behind(left: Open) -> Bad
-    ensures { result ≡ left_behind left }
+#[tactic(auto, unfolding(crate::specs::Meaning::left_behind))]
+pub fn left_behind(left: Option<u64>) -> Result<(), Refused>
+    ensures { bad_of result ≡ left_behind left }
 {
     match left {
-        Open::None => Bad {
-            number: numbers::DONE,
-            place: 0,
-        },
-        Open::At(place) => Bad {
-            number: numbers::MASK_LEFT_BEHIND,
+        None => Ok(()),
+        Some(place) => Err(Refused {
+            refusal: Refusal::MaskLeftBehind,
             place,
-        },
-    }
-}
-
-// Of two verdicts the first that refuses.
-pub(crate) fn first_bad(first: Bad, later: Bad) -> Bad
-    ensures { result ≡ first_bad first later }
-{
-    if first.number == numbers::DONE {
-        later
-    } else {
-        first
+        }),
     }
 }

@@ -10,6 +10,8 @@ ghost use Rattle.list.specs.Meaning.{cycles_of, readable};
 use crate::fields::{body_length, word_at};
 use vram::{Cycle, Vram};
 
+// Each kind's cycle of its body. Each makes another variant: one function for all that took the variant would read no plainer, and neither
+// would arrays for the bodies, with an `unwrap` at each call.
 fn word_write(body: &[u8]) -> Cycle
     requires { length body.now ≡ 10 }
     ensures { result ≡ WordWrite (word body.now 0) (word body.now 2) (word body.now 4) (byte body.now 6) (word body.now 7) (byte body.now 9) }
@@ -109,14 +111,15 @@ pub(crate) fn run_fields(state: Vram, memory: &mut [u16], serial: &mut [u16], li
     requires { readable (fields list.now) ≡ true }
     ensures { board result memory.new serial.new ≡ run (cycles_of list.now) (board state memory.old serial.old) }
 {
+    // A field's size comes from its bytes: so each turn takes what is left, and there is no index to count.
     let mut rest = list;
     let mut current = state;
-    while 0 < rest.len() {
+    while !rest.is_empty() {
         let tag = rest[0];
         let size = 3 + body_length(tag);
         let cycle = cycle_of(tag, &rest[3..size]);
-        let answer = current.cycle(memory, serial, cycle);
-        current = answer.state;
+        // None is refused: the list has been checked.
+        current = current.cycle(memory, serial, cycle).unwrap_or(current);
         rest = &rest[size..];
     }
     current

@@ -10,13 +10,13 @@ use Rattle.vram.specs.declared.Cycle.{Cycle}
 use Rattle.vram.specs.Board.{Board, effect}
 use Rattle.vram.specs.Step.{given_of, rows_of, Engine, step_by, run_by}
 use Rattle.vram.specs.StepLaws.{steps_same, runs_same}
-use Rattle.list.specs.declared.Bad.{Bad}
+use Rattle.list.specs.Meaning.{Bad}
 use Rattle.list.specs.Meaning.{bad, first_bad, cycles_of, verdict_of as list_verdict, run_call_by as list_call_by}
 use Rattle.list.proofs.JudgeLaws.{bad_first, bad_later, bad_zero}
 use Rattle.list.proofs.PersistLaws.{call_plain}
 use Rattle.list.proofs.CallLaws.{verdict_given, verdict_judged, call_given_by, call_runs_by, call_refuses_by}
-use Rattle.marks.specs.declared.Found.{Found}
-use Rattle.marks.specs.declared.Found.TheVariants.{None, Row}
+use Rattle.std.specs.Prelude.{Option}
+use Rattle.std.specs.Prelude.Option.{None, Some}
 use Rattle.marks.specs.Marks.{no_marks, marked_by_all, first_marked}
 use Rattle.marks.specs.Calls.{length_number, verdict_of, Outcome, gives, run_call_by, run_call, mark_call, cleared, clear_call, next_number, answers, next_call, values, values_of, answered}
 
@@ -176,7 +176,7 @@ pub values_none : values_of None ≡ values 0 0 0
 unfolding values_of
 values_none = refl
 
-pub values_row : (r : ℕ) → values_of (Row r) ≡ values 0 1 r
+pub values_row : (r : ℕ) → values_of (Some r) ≡ values 0 1 r
 unfolding values_of
 values_row r = refl
 
@@ -201,6 +201,6 @@ module _ (marks : List ℕ) (start : ℕ) where
     | no n ↦ rw (ne_eqb (next_number (length marks) start) 0 n)
   ]
     where
-      case : (f : Found) → values_of f ≡ values 0 (values_of f).found (values_of f).row
+      case : (f : Option ℕ) → values_of f ≡ values 0 (values_of f).found (values_of f).row
       case None = refl
-      case (Row r) = refl
+      case (Some r) = refl

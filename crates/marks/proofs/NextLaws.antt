@@ -6,8 +6,8 @@ use Rattle.std.proofs.Math.Bool.{false}
 use Rattle.std.proofs.Math.Decide.{dec_le, dec_lt}
 use Rattle.words.specs.Bit.{bit}
 use Rattle.words.specs.BitLaws.{bit_shr, bit_none}
-use Rattle.marks.specs.declared.Found.{Found}
-use Rattle.marks.specs.declared.Found.TheVariants.{None, Row}
+use Rattle.std.specs.Prelude.{Option}
+use Rattle.std.specs.Prelude.Option.{None, Some}
 use Rattle.marks.specs.Marks.{is_marked, first_marked, Least}
 
 module _ (marks : List ℕ) where
@@ -17,7 +17,7 @@ module _ (marks : List ℕ) where
   unfolding first_marked
   first_none r = refl
 
-  pub first_marked_is : (r n : ℕ) → is_marked marks r ≡ true → first_marked marks r (suc n) ≡ Row r
+  pub first_marked_is : (r n : ℕ) → is_marked marks r ≡ true → first_marked marks r (suc n) ≡ Some r
   unfolding first_marked
   first_marked_is r n h = rw h
 
@@ -51,25 +51,25 @@ module _ (marks : List ℕ) where
         | no z ↦ f q (omega arith) k
       ]
 
-      go : (t : Bool) → is_marked marks r ≡ t → (f : Found) → Least marks (suc r) (suc r + n) f → Least marks r (r + suc n) (cond t (Row r) f)
+      go : (t : Bool) → is_marked marks r ≡ t → (f : Option ℕ) → Least marks (suc r) (suc r + n) f → Least marks r (r + suc n) (cond t (Some r) f)
       go true e f l = (omega arith, omega arith, e, λ q h k. absurd (omega arith))
       go false e None l = λ q h k. later e (suc r + n) l q h (omega arith)
-      go false e (Row s) l = (omega (arith, l.0), omega (arith, l.1), l.2, later e s l.3)
+      go false e (Some s) l = (omega (arith, l.0), omega (arith, l.1), l.2, later e s l.3)
 
   -- no two differ that are least: so what is least is found, and none where no row is marked
-  one_least : (r end : ℕ) (f g : Found) → Least marks r end f → Least marks r end g → f ≡ g
+  one_least : (r end : ℕ) (f g : Option ℕ) → Least marks r end f → Least marks r end g → f ≡ g
   one_least r end None None h k = refl
-  one_least r end None (Row t) h k = absurd (true≢false (sym k.2 ∙ h t k.0 k.1))
-  one_least r end (Row s) None h k = absurd (true≢false (sym h.2 ∙ k s h.0 h.1))
-  one_least r end (Row s) (Row t) h k = elim (dec_lt s t) [
+  one_least r end None (Some t) h k = absurd (true≢false (sym k.2 ∙ h t k.0 k.1))
+  one_least r end (Some s) None h k = absurd (true≢false (sym h.2 ∙ k s h.0 h.1))
+  one_least r end (Some s) (Some t) h k = elim (dec_lt s t) [
     | yes l ↦ absurd (true≢false (sym h.2 ∙ k.3 s h.0 l))
     | no m ↦ elim (dec_lt t s) [
       | yes l ↦ absurd (true≢false (sym k.2 ∙ h.3 t k.0 l))
-      | no o ↦ let e : s ≡ t = omega arith in ap (λ (x : ℕ). Row x) e
+      | no o ↦ let e : s ≡ t = omega arith in ap (λ (x : ℕ). Some x) e
     ]
   ]
 
-  pub first_only : (n r : ℕ) (f : Found) → Least marks r (r + n) f → first_marked marks r n ≡ f
+  pub first_only : (n r : ℕ) (f : Option ℕ) → Least marks r (r + n) f → first_marked marks r n ≡ f
   first_only n r f l = one_least r (r + n) (first_marked marks r n) f (first_least n r) l
 
   -- ---- one byte

@@ -14,7 +14,7 @@ use Rattle.vram.specs.Kinds.{names}
 use Rattle.vram.specs.Writes.{row_of}
 use Rattle.vram.proofs.RuleLaws.{step_row, run_sized}
 use Rattle.vram.proofs.CaseLaws.{run_none, run_next, names_fitted}
-use Rattle.list.specs.declared.Bad.{Bad}
+use Rattle.list.specs.Meaning.{Bad}
 use Rattle.list.specs.Meaning.{cycles_of}
 use Rattle.list.proofs.CallLaws.{call_runs}
 use Rattle.list.proofs.PerformLaws.{call_performs, accepted_cycle}

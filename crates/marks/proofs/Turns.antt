@@ -1,9 +1,6 @@
 -- One turn of each loop, in the terms that the code has. Assumes nothing.
-use Rattle.std.proofs.Common.{◌≡◌, sym, ap, ap₂, ◌∙◌, true, false, List, ℕ, suc, ◌+◌, ◌-◌, ◌*◌, ◌/◌, ◌%◌, ◌^◌, ◌≤◌, ◌<◌, arith, one-mul, mod-lt, mod-eq_of_lt, length, get_or, take, drop, set, replicate, get_or-set_same, get_or-set_other, ext_get_or}
-use native.Mathlib.Decide.{ℕ_discrete}
+use Rattle.std.proofs.Common.{◌≡◌, sym, ap, ap₂, ◌∙◌, true, false, List, ℕ, suc, ◌+◌, ◌-◌, ◌*◌, ◌/◌, ◌%◌, ◌^◌, ◌≤◌, ◌<◌, arith, one-mul, mod-lt, mod-eq_of_lt, length, take, drop}
 use lib.Pow.{pow-lt}
-use lib.ListN.{length-replicate, get_or-replicate}
-use lib.Seq.{set_out}
 use Rattle.numbers.specs.BufferLaws.{tail_part, tail_length}
 use Rattle.vram.specs.declared.Cycle.{Cycle}
 use Rattle.list.specs.Tags.{byte, word, len_of, cycle_of}
@@ -12,7 +9,7 @@ use Rattle.list.specs.Fields.{tag, body, whole, fields}
 use Rattle.list.proofs.FieldLaws.{whole_length, whole_known, whole_says, body_word, readable_head, readable_tail}
 use Rattle.list.specs.Meaning.{readable, cycles_of}
 use Rattle.list.proofs.VerdictLaws.{cycles_nil, cycles_whole}
-use Rattle.marks.specs.declared.Found.TheVariants.{Row}
+use Rattle.std.specs.Prelude.Option.{Some}
 use Rattle.marks.specs.Marks.{is_marked, mark, marked_by, marked_by_all, first_marked}
 use Rattle.marks.proofs.MarkLaws.{by_write, by_none}
 use Rattle.marks.proofs.NextLaws.{first_marked_is, first_skip, left_of, left_marked, left_unmarked, left_none}
@@ -24,12 +21,10 @@ shifted r =
     let h : 2 ^ (r % 8) < 2 ^ 8 = pow-lt (mod-lt r (omega arith)) in
     ap (λ (n : ℕ). n % 256) (one-mul (2 ^ (r % 8))) ∙ mod-eq_of_lt h
 
--- a row with no byte
-pub mark_out : (r : ℕ) (marks : List ℕ) → length marks ≤ r / 8 → marks ≡ mark r marks
-unfolding mark
-mark_out r marks h = sym (set_out marks (r / 8) _ h)
-
 -- ---- a field, by its tag: s is what is left of the list
+
+pub whole_some : (s : List ℕ) → whole s ≡ true → 0 < length s
+whole_some s w = omega (arith, whole_length s w)
 
 module _ (s : List ℕ) (w : whole s ≡ true) (marks : List ℕ) where
   pub mark_write : tag s ≤ 2 → mark (word s 3) marks ≡ marked_by (cycle_of (tag s) (body s)) marks
@@ -79,26 +74,10 @@ module _ (s : List ℕ) (p : 0 < length s) (r : readable (fields s) ≡ true) wh
         ap₂ (λ (t x : List ℕ). marked_by_all (cycles_of t) x) rest l
         ∙ sym (ap (λ (k : List Cycle). marked_by_all k marks) (cycles_whole s first_whole))
 
--- ---- the loop of zeros: i of them stand
-
-abbrev pub Zeros : List ℕ → ℕ → Type 0
-Zeros marks i = (j : ℕ) → j < i → ◌≡◌ {A = ℕ} (get_or marks j 0) 0
-
-pub turn_zeros : (marks : List ℕ) (i : ℕ) → i < length marks → Zeros marks i → Zeros (set marks i 0) (i + 1)
-turn_zeros marks i h z j l = elim (ℕ_discrete j i) [
-  | yes e ↦ ap (λ (n : ℕ). get_or (set marks i 0) n 0) e ∙ get_or-set_same marks i 0 0 h
-  | no n ↦ get_or-set_other marks i j 0 0 n ∙ z j (omega arith)
-]
-
-pub end_zeros : (before marks : List ℕ) (i : ℕ) → length marks ≤ i → length marks ≡ length before → Zeros marks i → marks ≡ replicate (length before) 0
-end_zeros before marks i h e z =
-    ext_get_or 0 marks (replicate (length before) 0) (e ∙ sym (length-replicate (length before) 0))
-    (λ j l. z j (omega arith) ∙ sym (get_or-replicate (length before) j 0 0 (omega arith)))
-
 -- ---- the search: r is the row looked at
 
 module _ (marks : List ℕ) (r : ℕ) (h : r ≤ 511) where
-  pub found : left_of marks r % 2 ≡ 1 → Row r ≡ first_marked marks r (512 - r)
+  pub found : left_of marks r % 2 ≡ 1 → Some r ≡ first_marked marks r (512 - r)
   found e =
       let n : 512 - r ≡ suc (511 - r) = omega arith in
       sym (ap (first_marked marks r) n ∙ first_marked_is marks r (511 - r) (left_marked marks r e))

@@ -3,11 +3,10 @@
 use Rattle.std.specs.Prelude.{◌≡◌, List, ℕ, ◌+◌, ◌-◌, ◌≤◌, ◌<◌, length}
 use Rattle.std.proofs.Common.{sym, ap, ◌∙◌, subst, arith}
 use Rattle.words.specs.Bit.{digit}
-use Rattle.marks.specs.declared.Found.{Found}
-use Rattle.marks.specs.declared.Marked.{Marked}
+use Rattle.std.specs.Prelude.{Option}
 use Rattle.marks.specs.Marks.{is_marked, first_marked, Least}
 use Rattle.marks.proofs.NextLaws.{first_least, first_only}
-use Rattle.marks.specs.Calls.{next_call}
+use Rattle.marks.specs.Calls.{Marked, next_call}
 use Rattle.marks.proofs.CallLaws.{next_finds}
 use Rattle.marks.specs.Walk.{visited, marked_rows, how_often}
 use Rattle.marks.proofs.WalkLaws.{visits_rows, outside, among}
@@ -29,7 +28,7 @@ module _ (marks : List ℕ) (h : length marks ≡ 64) where
         (subst (Least marks start (start + (512 - start))) (sym it_finds) (first_least marks (512 - start) start))
 
     -- and the least marked row is found, and none where none is marked
-    pub next_only : (f : Found) → Least marks start 512 f → (next_call marks start).found ≡ f
+    pub next_only : (f : Option ℕ) → Least marks start 512 f → (next_call marks start).found ≡ f
     next_only f l = it_finds ∙ first_only marks (512 - start) start f (subst (λ (end : ℕ). Least marks start end f) (sym to_512) l)
 
   -- ---- the whole walk, from row 0 on, with any number of calls that would do for every row

@@ -8,24 +8,23 @@ use Rattle.std.proofs.Math.Decide.{dec_le}
 use Rattle.std.proofs.Math.Dec.{eqb}
 use borrow.Author.Tests.{eqb-false}
 use Rattle.words.specs.Bit.{digit}
-use Rattle.marks.specs.declared.Found.{Found}
-use Rattle.marks.specs.declared.Found.TheVariants.{None, Row}
-use Rattle.marks.specs.declared.Marked.{Marked}
+use Rattle.std.specs.Prelude.{Option}
+use Rattle.std.specs.Prelude.Option.{None, Some}
 use Rattle.marks.specs.Marks.{is_marked, first_marked, Least}
 use Rattle.marks.proofs.NextLaws.{first_least}
-use Rattle.marks.specs.Calls.{next_call}
+use Rattle.marks.specs.Calls.{Marked, next_call}
 use Rattle.marks.proofs.CallLaws.{next_5, next_finds}
 use Rattle.marks.specs.Walk.{goes_on, visited_by, visited, marked_rows, how_often}
 
 -- two searches that find the same visit the same rows
-pub visited_same : (f g : ℕ → Found) → ((s : ℕ) → f s ≡ g s) → (k start : ℕ) → visited_by f k start ≡ visited_by g k start
+pub visited_same : (f g : ℕ → Option ℕ) → ((s : ℕ) → f s ≡ g s) → (k start : ℕ) → visited_by f k start ≡ visited_by g k start
 unfolding visited_by
 visited_same f g h zero start = refl
-visited_same f g h (suc k) start = ap (λ (x : Found). goes_on x (visited_by f k)) (h start) ∙ case (g start) (visited_same f g h k)
+visited_same f g h (suc k) start = ap (λ (x : Option ℕ). goes_on x (visited_by f k)) (h start) ∙ case (g start) (visited_same f g h k)
   where
-    case : (x : Found) → ((s : ℕ) → visited_by f k s ≡ visited_by g k s) → goes_on x (visited_by f k) ≡ goes_on x (visited_by g k)
+    case : (x : Option ℕ) → ((s : ℕ) → visited_by f k s ≡ visited_by g k s) → goes_on x (visited_by f k) ≡ goes_on x (visited_by g k)
     case None ih = refl
-    case (Row r) ih = ap (λ (rows : List ℕ). r ∷ rows) (ih (suc r))
+    case (Some r) ih = ap (λ (rows : List ℕ). r ∷ rows) (ih (suc r))
 
 module _ (marks : List ℕ) where
   -- the marked rows are the first and those after it
@@ -36,7 +35,7 @@ module _ (marks : List ℕ) where
     where
       go : (t : Bool) → marked_rows marks (suc r) n ≡ goes_on (first_marked marks (suc r) n) (λ s. marked_rows marks s (suc r + n - s))
           → cond t (r ∷ marked_rows marks (suc r) n) (marked_rows marks (suc r) n)
-          ≡ goes_on (cond t (Row r) (first_marked marks (suc r) n)) (λ s. marked_rows marks s (r + suc n - s))
+          ≡ goes_on (cond t (Some r) (first_marked marks (suc r) n)) (λ s. marked_rows marks s (r + suc n - s))
       go true ih = let e : n ≡ r + suc n - suc r = omega arith in ap (λ (k : ℕ). r ∷ marked_rows marks (suc r) k) e
       go false ih =
           let e : suc r + n ≡ r + suc n = omega arith in
@@ -50,10 +49,10 @@ module _ (marks : List ℕ) where
     visits_rows (suc k) start l m = go (visits_rows k)
       where
         -- by what is found
-        case : (f : Found) → Least marks start (start + (512 - start)) f → ((s : ℕ) → s ≤ 512 → 512 - s ≤ k → visited marks k s ≡ marked_rows marks s (512 - s))
+        case : (f : Option ℕ) → Least marks start (start + (512 - start)) f → ((s : ℕ) → s ≤ 512 → 512 - s ≤ k → visited marks k s ≡ marked_rows marks s (512 - s))
             → goes_on f (visited marks k) ≡ goes_on f (λ s. marked_rows marks s (start + (512 - start) - s))
         case None z ih = refl
-        case (Row s) z ih =
+        case (Some s) z ih =
             let e : 512 - suc s ≡ start + (512 - start) - suc s = omega arith in
             ap (λ (rows : List ℕ). s ∷ rows) (ih (suc s) (omega (arith, z.1)) (omega (arith, z.0)) ∙ ap (marked_rows marks (suc s)) e)
 

@@ -1,16 +1,16 @@
 -- What each call answers and leaves: change request M-104. Assumes nothing.
 use Rattle.std.specs.Prelude.{ℕ, ◌-◌, Bool, cond, List, eqb, leb, length}
+use Rattle.numbers.specs.declared.Refusal.{Refusal}
+use Rattle.numbers.specs.Refusal.{given_back, left_by}
 use Rattle.numbers.specs.Refuse.{refuse, first_of, leaves}
 use Rattle.vram.specs.Board.{Board, board, effect}
 use Rattle.vram.specs.Step.{given_of, Engine, step_by, run_by}
-use Rattle.list.specs.declared.Bad.{Bad}
-use Rattle.list.specs.declared.Ran.{Ran}
-use Rattle.list.specs.declared.Open.TheVariants.{None as Closed}
+use Rattle.list.specs.Meaning.{Bad}
+use Rattle.list.specs.Meaning.{Ran}
+use Rattle.std.specs.Prelude.Option.{None, None as Closed, Some}
 use Rattle.list.specs.Fields.{fields}
 use Rattle.list.specs.Meaning.{bad, first_bad, judged, cycles_of, verdict_of as list_verdict}
-use Rattle.marks.specs.declared.Found.{Found}
-use Rattle.marks.specs.declared.Found.TheVariants.{None, Row}
-use Rattle.marks.specs.declared.Marked.{Marked}
+use Rattle.std.specs.Prelude.{Option, Result}
 use Rattle.marks.specs.Marks.{no_marks, marked_by_all, first_marked}
 
 -- 18: so many bytes are not a mark for each of 512 rows
@@ -80,8 +80,17 @@ clear_call marks = cleared (length_number (length marks)) (leaves (length_number
 unfoldable pub next_number : ℕ → ℕ → ℕ
 next_number bytes start = first_of (length_number bytes) (refuse (leb start 511) 5 0)
 
-abbrev pub answers : ℕ → Found → Marked
+-- the number given back, and what is found: none where the call is refused
+pub record Marked : Type 0 where
+  pub number : ℕ
+  pub found : Option ℕ
+
+abbrev pub answers : ℕ → Option ℕ → Marked
 answers n found = record { number = n; found = found }
+
+-- what a call answers
+abbrev pub next_by : Result (Option ℕ) Refusal → Marked
+next_by answer = answers (given_back answer) (left_by None answer)
 
 -- of the rows from the start on, itself included, the first that is marked; none where the call is refused
 unfoldable pub next_call : List ℕ → ℕ → Marked
@@ -98,9 +107,9 @@ pub record Values : Type 0 where
 abbrev pub values : ℕ → ℕ → ℕ → Values
 values number found row = record { number = number; found = found; row = row }
 
-unfoldable pub values_of : Found → Values
+unfoldable pub values_of : Option ℕ → Values
 values_of None = values 0 0 0
-values_of (Row r) = values 0 1 r
+values_of (Some r) = values 0 1 r
 
 -- of an answer: a refusal's number, with zeros besides, or what is found
 unfoldable pub answered : Marked → Values

@@ -5,8 +5,8 @@ use Rattle.words.specs.Bit.{bit}
 use Rattle.vram.specs.declared.Cycle.{Cycle}
 use Rattle.vram.specs.declared.Cycle.TheVariants.{WordWrite, BlockWrite, LoadColour, LoadMask, ResetRefresh, FullTransfer, SplitTransfer, StopPoints}
 use Rattle.vram.specs.Kinds.{names}
-use Rattle.marks.specs.declared.Found.{Found}
-use Rattle.marks.specs.declared.Found.TheVariants.{None, Row}
+use Rattle.std.specs.Prelude.{Option}
+use Rattle.std.specs.Prelude.Option.{None, Some}
 
 -- row r is marked: bit r mod 8 of byte r / 8
 unfoldable pub is_marked : List ℕ → ℕ → Bool
@@ -52,11 +52,11 @@ named_in r [] = false
 named_in r (c ∷ l) = names r c || named_in r l
 
 -- the first marked of n rows from r on
-unfoldable pub first_marked : List ℕ → ℕ → ℕ → Found
+unfoldable pub first_marked : List ℕ → ℕ → ℕ → Option ℕ
 first_marked marks r zero = None
-first_marked marks r (suc n) = cond (is_marked marks r) (Row r) (first_marked marks (suc r) n)
+first_marked marks r (suc n) = cond (is_marked marks r) (Some r) (first_marked marks (suc r) n)
 
 -- what is found is the least marked of the rows from r up to an end; none, where none of them is marked
-abbrev pub Least : List ℕ → ℕ → ℕ → Found → Type 0
+abbrev pub Least : List ℕ → ℕ → ℕ → Option ℕ → Type 0
 Least marks r end None = (q : ℕ) → r ≤ q → q < end → is_marked marks q ≡ false
-Least marks r end (Row s) = (r ≤ s) × (s < end) × (is_marked marks s ≡ true) × ((q : ℕ) → r ≤ q → q < s → is_marked marks q ≡ false)
+Least marks r end (Some s) = (r ≤ s) × (s < end) × (is_marked marks s ≡ true) × ((q : ℕ) → r ≤ q → q < s → is_marked marks q ≡ false)

@@ -2,18 +2,18 @@
 use Rattle.std.specs.Prelude.{ℕ, zero, suc, ◌+◌, ◌*◌, cond, List, [], ◌∷◌, eqb}
 use Rattle.words.specs.Bit.{digit}
 use Rattle.vram.specs.Memory.{copied}
-use Rattle.marks.specs.declared.Found.{Found}
-use Rattle.marks.specs.declared.Found.TheVariants.{None, Row}
+use Rattle.std.specs.Prelude.{Option}
+use Rattle.std.specs.Prelude.Option.{None, Some}
 use Rattle.marks.specs.Marks.{is_marked}
 use Rattle.marks.specs.Calls.{next_call}
 
 -- a row that is found is visited, and the search goes on from the row after it; where none is found the link is done
-abbrev pub goes_on : Found → (ℕ → List ℕ) → List ℕ
+abbrev pub goes_on : Option ℕ → (ℕ → List ℕ) → List ℕ
 goes_on None from = []
-goes_on (Row r) from = r ∷ from (suc r)
+goes_on (Some r) from = r ∷ from (suc r)
 
 -- the loop, by any search: k calls at most, the first from a start row
-unfoldable pub visited_by : (ℕ → Found) → ℕ → ℕ → List ℕ
+unfoldable pub visited_by : (ℕ → Option ℕ) → ℕ → ℕ → List ℕ
 visited_by search zero start = []
 visited_by search (suc k) start = goes_on (search start) (visited_by search k)
 

@@ -4,34 +4,23 @@
 
 ghost use Rattle.std.specs.Prelude.{◌≡◌};
 ghost use Rattle.vram.specs.Board.{board};
-ghost use Rattle.marks.specs.Calls.{length_number, outcome, run_call, noted, mark_call, cleared, clear_call, next_call};
+ghost use Rattle.numbers.specs.Refusal.{given_back};
+ghost use Rattle.list.specs.Meaning.{bad_of, ran_by};
+ghost use Rattle.marks.specs.Calls.{length_number, outcome, run_call, noted, mark_call, cleared, clear_call, next_by, next_call};
 
 mod rows;
 
-use list::{Bad, Ran, check};
-use numbers::refuse;
-use rows::{first_from, mark_writes, put_zeros};
+use list::{Refused, check};
+use numbers::{Refusal, refuse};
+use rows::{first_from, mark_writes};
 use vram::Vram;
 
-// What is found: no marked row, or one.
-#[derive(Clone, Copy)]
-pub enum Found {
-    None,
-    Row(u16),
-}
-
-// The number given back, and what is found: none where the call is refused.
-#[derive(Clone, Copy)]
-pub struct Marked {
-    pub number: u32,
-    pub found: Found,
-}
-
 // 18 where so many bytes are not a mark for each row.
-fn length_number(bytes: usize) -> u32
-    ensures { result ≡ length_number bytes }
+#[tactic(auto, unfolding(crate::specs::Calls::length_number))]
+fn check_length(bytes: usize) -> Result<(), Refusal>
+    ensures { given_back result ≡ length_number bytes }
 {
-    refuse(bytes == 64, numbers::MARKS_LENGTH, numbers::DONE)
+    refuse(bytes == 64, Refusal::MarksLength)
 }
 
 // A list, run as `list` runs it; then the rows that its writes name are marked. A refused list sets no mark.
@@ -41,73 +30,43 @@ pub fn run(
     serial: &mut [u16],
     marks: &mut [u8],
     list: &[u8],
-) -> Ran
-    ensures { outcome result memory.new serial.new marks.new ≡ run_call list.now (board state memory.old serial.old) marks.old }
+) -> Result<Vram, Refused>
+    ensures { outcome (ran_by state result) memory.new serial.new marks.new ≡ run_call list.now (board state memory.old serial.old) marks.old }
 {
-    let given = state.given(memory.len(), serial.len());
-    let length = length_number(marks.len());
-    let n = refuse(given == numbers::DONE, given, length);
-    if n != numbers::DONE {
-        return Ran {
-            state,
-            number: n,
-            place: 0,
-        };
-    }
-    let ran = list::run(state, memory, serial, list);
-    let number = ran.number;
-    if number != numbers::DONE {
-        return ran;
-    }
+    state.given(memory.len(), serial.len())?;
+    check_length(marks.len())?;
+    let after = list::run(state, memory, serial, list)?;
     mark_writes(list, marks);
-    ran
+    Ok(after)
 }
 
 // For an engine that runs a list itself: the list is checked, 18 first, and where nothing refuses it the rows that its writes name are
 // marked.
-pub fn mark_list(list: &[u8], rows: usize, loaded: bool, marks: &mut [u8]) -> Bad
-    ensures { noted result marks.new ≡ mark_call list.now rows loaded marks.old }
+pub fn mark_list(list: &[u8], rows: usize, loaded: bool, marks: &mut [u8]) -> Result<(), Refused>
+    ensures { noted (bad_of result) marks.new ≡ mark_call list.now rows loaded marks.old }
 {
-    let n = length_number(marks.len());
-    if n != numbers::DONE {
-        return Bad {
-            number: n,
-            place: 0,
-        };
-    }
-    let bad = check(list, rows, loaded);
-    if bad.number != numbers::DONE {
-        return bad;
-    }
+    check_length(marks.len())?;
+    check(list, rows, loaded)?;
     mark_writes(list, marks);
-    bad
+    Ok(())
 }
 
 // All marks cleared.
-pub fn clear(marks: &mut [u8]) -> u32
-    ensures { cleared result marks.new ≡ clear_call marks.old }
+#[tactic(auto, unfolding(crate::specs::Calls::clear_call, crate::specs::Calls::length_number))]
+pub fn clear(marks: &mut [u8]) -> Result<(), Refusal>
+    ensures { cleared (given_back result) marks.new ≡ clear_call marks.old }
 {
-    let n = length_number(marks.len());
-    if n != numbers::DONE {
-        return n;
-    }
-    put_zeros(marks);
-    n
+    check_length(marks.len())?;
+    marks.fill(0);
+    Ok(())
 }
 
 // The least marked row from a start row on, itself included.
-pub fn next(marks: &[u8], start: u32) -> Marked
-    ensures { result ≡ next_call marks.now start }
+#[tactic(auto, unfolding(crate::specs::Calls::next_call, crate::specs::Calls::next_number, crate::specs::Calls::length_number))]
+pub fn next(marks: &[u8], start: u32) -> Result<Option<u16>, Refusal>
+    ensures { next_by result ≡ next_call marks.now start }
 {
-    let length = length_number(marks.len());
-    let later = refuse(start <= 511, numbers::ROW_NOT_FITTED, numbers::DONE);
-    let n = refuse(length == numbers::DONE, length, later);
-    if n != numbers::DONE {
-        return Marked {
-            number: n,
-            found: Found::None,
-        };
-    }
-    let found = first_from(marks, start as usize);
-    Marked { number: n, found }
+    check_length(marks.len())?;
+    refuse(start <= 511, Refusal::RowNotFitted)?;
+    Ok(first_from(marks, start as usize))
 }

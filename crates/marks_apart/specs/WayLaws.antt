@@ -4,7 +4,7 @@ use Rattle.std.proofs.Common.{ap, ap₂}
 use Rattle.vram.specs.Board.{Board}
 use Rattle.vram.specs.High.{Twins, KeepsTwins}
 use Rattle.vram.proofs.HighLaws.{effect_twins}
-use Rattle.list.specs.declared.Bad.{Bad}
+use Rattle.list.specs.Meaning.{Bad}
 use Rattle.list.specs.HighLaws.{given_twins, after_twins}
 use Rattle.marks.proofs.HighLaws.{given_twins as marked_given, marks_twins as marked_rows, after_twins as marked_after}
 use Rattle.pencil.proofs.EngineLaws.{pencil_twins}

@@ -3,7 +3,7 @@
 use Rattle.std.specs.Prelude.{ℕ, List, [], ◌∷◌, ◌++◌}
 use Rattle.vram.specs.Board.{Board, effect}
 use Rattle.vram.specs.Step.{Engine}
-use Rattle.list.specs.declared.Bad.{Bad}
+use Rattle.list.specs.Meaning.{Bad}
 use Rattle.list.specs.Meaning.{run_call_by}
 use Rattle.marks.specs.Calls.{run_call_by as marked_call_by}
 use Rattle.pencil.specs.Pencil.{pencil}

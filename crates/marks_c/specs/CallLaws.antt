@@ -1,20 +1,23 @@
 -- Laws of the calls: the ways out of each; a refusal hands the state back as it came and changes nothing lent. Assumes nothing.
 use Rattle.std.specs.Prelude.{ℕ, ◌≡◌, refl, true, false, List, ◌≢◌}
-use Rattle.std.proofs.Common.{sym, ap₂, ◌∙◌}
+use Rattle.std.specs.Prelude.Option.{None}
+use Rattle.std.proofs.Common.{sym, ap₂, ◌∙◌, ne_eqb}
 use Rattle.std.proofs.Math.Path.{ap}
+use Rattle.numbers.specs.declared.Refusal.{Refusal}
+use Rattle.numbers.specs.Refusal.{number_of}
+use Rattle.numbers.specs.RefusalLaws.{number_not_zero}
 use Rattle.refusals.specs.Refusal.{partition_ok}
 use Rattle.vram.specs.declared.Vram.{Vram}
 use Rattle.vram.specs.declared.Cycle.{Cycle}
 use Rattle.vram.specs.Board.{Board, board, effect}
 use Rattle.vram.specs.Step.{Engine}
-use Rattle.list.specs.declared.Ran.{Ran as ListRan}
+use Rattle.list.specs.Meaning.{Ran as ListRan}
 use Rattle.registers.specs.declared.Registers.{Registers}
 use Rattle.registers.specs.declared.Ran.{Ran}
 use Rattle.registers.specs.State.{lawful, taken, handed, handed_answer, handed_ran, excluded_ran}
 use Rattle.registers.specs.StateLaws.{handed_taken, taking_excluded, taking_done, taking_handed, taking_either, taking_same, handed_plain, taking_plain, other_length}
-use Rattle.marks.specs.declared.Found.{Found}
-use Rattle.marks.specs.declared.Marked.{Marked as Below}
-use Rattle.marks.specs.Calls.{Outcome, outcome, run_call_by, run_call, next_call, Values, values_of}
+use Rattle.std.specs.Prelude.{Option}
+use Rattle.marks.specs.Calls.{Marked as Below, Outcome, outcome, run_call_by, run_call, answers, answered, next_call, Values, values_of}
 use Rattle.marks.proofs.CallLaws.{run_given_by, run_refuses_by, marked_same, run_plain, answered_is}
 use Rattle.marks_c.specs.declared.Marked.{Marked}
 use Rattle.marks_c.specs.Calls.{Listed, listed, list_answer, marked_call_by, marked_call, handed_next}
@@ -84,7 +87,11 @@ marked_plain s e m q marks list =
 
 -- ---- the next marked row: the number, and the values of what is found
 
-pub next_handed : (marks : List ℕ) (start : ℕ) (m : Below) → m ≡ next_call marks start → (f : Found) → m.found ≡ f → (v : Values) → v ≡ values_of f
+pub refused_handed : (refusal : Refusal) → record { number = number_of refusal; found = 0; row = 0 } ≡ handed_next (answers (number_of refusal) None)
+unfolding handed_next answered
+refused_handed refusal = rw (ne_eqb (number_of refusal) 0 (number_not_zero refusal)) refl
+
+pub next_handed : (marks : List ℕ) (start : ℕ) (m : Below) → m ≡ next_call marks start → (f : Option ℕ) → m.found ≡ f → (v : Values) → v ≡ values_of f
     → record { number = m.number; found = v.found; row = v.row } ≡ handed_next (next_call marks start)
 unfolding handed_next
 next_handed marks start m e f g v h =

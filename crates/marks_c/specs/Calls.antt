@@ -5,8 +5,7 @@ use Rattle.vram.specs.Step.{Engine}
 use Rattle.registers.specs.declared.Registers.{Registers}
 use Rattle.registers.specs.declared.Ran.{Ran}
 use Rattle.registers.specs.State.{taking, handed_answer, excluded_ran}
-use Rattle.marks.specs.declared.Marked.{Marked as Below}
-use Rattle.marks.specs.Calls.{Outcome, run_call_by, answered}
+use Rattle.marks.specs.Calls.{Marked as Below, Outcome, run_call_by, answered}
 use Rattle.marks_c.specs.declared.Marked.{Marked}
 
 -- ---- a list with marks

@@ -3,8 +3,8 @@
 use Rattle.std.specs.Prelude.{ℕ, ◌≡◌, refl, Bool, true, false, cond, List, [], ◌∷◌, eqb}
 use Rattle.std.proofs.Common.{sym, ap, ◌∙◌}
 use Rattle.registers.specs.State.{lawful}
-use Rattle.marks.specs.declared.Found.{Found}
-use Rattle.marks.specs.declared.Found.TheVariants.{None, Row}
+use Rattle.std.specs.Prelude.{Option}
+use Rattle.std.specs.Prelude.Option.{None, Some}
 use Rattle.marks.specs.Calls.{next_call, Values, values, values_of}
 use Rattle.marks.proofs.CallLaws.{values_none, values_row, answered_is}
 use Rattle.marks.specs.Runs.{Drawn, after as below_after, after_all as below_after_all}
@@ -40,12 +40,12 @@ pub found_below : (marks : List ℕ) (start : ℕ) → found_in (handed_next (ne
 unfolding handed_next
 found_below marks start = ap reads (answered_is marks start) ∙ case (next_call marks start).number (next_call marks start).found
   where
-    reads : Values → Found
-    reads v = cond (eqb v.found 0) None (Row v.row)
+    reads : Values → Option ℕ
+    reads v = cond (eqb v.found 0) None (Some v.row)
 
-    case : (n : ℕ) (f : Found) → reads (values n (values_of f).found (values_of f).row) ≡ f
+    case : (n : ℕ) (f : Option ℕ) → reads (values n (values_of f).found (values_of f).row) ≡ f
     case n None = rw values_none
-    case n (Row r) = rw (values_row r)
+    case n (Some r) = rw (values_row r)
 
 pub walk_below : (marks : List ℕ) (k start : ℕ) → visited marks k start ≡ below_visited marks k start
 walk_below marks = visited_same (λ s. found_in (handed_next (next_call marks s))) (λ s. (next_call marks s).found) (found_below marks)

@@ -2,8 +2,8 @@
 use Rattle.std.specs.Prelude.{ℕ, cond, List, [], ◌∷◌, eqb}
 use Rattle.registers.specs.declared.Registers.{Registers}
 use Rattle.registers.specs.State.{lawful, taken}
-use Rattle.marks.specs.declared.Found.{Found}
-use Rattle.marks.specs.declared.Found.TheVariants.{None, Row}
+use Rattle.std.specs.Prelude.{Option}
+use Rattle.std.specs.Prelude.Option.{None, Some}
 use Rattle.marks.specs.Calls.{next_call}
 use Rattle.marks.specs.Runs.{Run as Below, Drawn, drawn, in_order}
 use Rattle.marks.specs.Walk.{visited_by}
@@ -35,8 +35,8 @@ runs_of (r ∷ rs) = cond (lawful r.state) (run_of r ∷ runs_of rs) (runs_of rs
 -- ---- a link
 
 -- what C reads off an answer: none where found is 0, else the row
-abbrev pub found_in : Marked → Found
-found_in m = cond (eqb m.found 0) None (Row m.row)
+abbrev pub found_in : Marked → Option ℕ
+found_in m = cond (eqb m.found 0) None (Some m.row)
 
 -- the rows that the header's loop visits, with k calls at most
 abbrev pub visited : List ℕ → ℕ → ℕ → List ℕ

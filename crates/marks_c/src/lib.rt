@@ -6,12 +6,13 @@ ghost use Rattle.std.specs.Prelude.{◌≡◌};
 ghost use Rattle.marks.specs.Calls.{cleared, clear_call, next_call};
 ghost use Rattle.marks_c.specs.Calls.{listed, marked_call, handed_next};
 
-use marks::Found;
-use registers::{Ran, Registers, hand_ran, lawful, take};
+use numbers::number;
+use registers::{Ran, Registers, excluded, hand_ran};
+use vram::Vram;
 
 // The number given back, and what is found: found 0 is none, 1 a row.
 #[repr(C)]
-#[derive(Clone, Copy)]
+#[derive(Clone, Copy, Debug, PartialEq, Eq)]
 pub struct Marked {
     pub number: u32,
     pub found: u32,
@@ -28,14 +29,9 @@ pub fn linkshoar_list_run_marked(
 ) -> Ran
     ensures { listed result memory.new serial.new marks.new ≡ marked_call state memory.old serial.old marks.old list.now }
 {
-    if lawful(state) {
-        let ran = marks::run(take(state), memory, serial, marks, list);
-        return hand_ran(ran);
-    }
-    Ran {
-        state,
-        number: numbers::STATE_EXCLUDED,
-        place: 0,
+    match Vram::try_from(state) {
+        Ok(vram) => hand_ran(vram, marks::run(vram, memory, serial, marks, list)),
+        Err(refusal) => excluded(state, refusal),
     }
 }
 
@@ -43,25 +39,24 @@ pub fn linkshoar_list_run_marked(
 pub fn linkshoar_marks_clear(marks: &mut [u8]) -> u32
     ensures { cleared result marks.new ≡ clear_call marks.old }
 {
-    marks::clear(marks)
+    number(marks::clear(marks))
+}
+
+// What is found, as C has it.
+fn answer(number: u32, found: u32, row: u32) -> Marked
+    ensures { result ≡ record { number = number; found = found; row = row } }
+{
+    Marked { number, found, row }
 }
 
 // The least marked row from a start row on, itself included.
+#[tactic(auto, unfolding(crate::specs::Calls::handed_next, marks::specs::Calls::answered, marks::specs::Calls::values_of), using(crate::specs::CallLaws::refused_handed))]
 pub fn linkshoar_marks_next(marks: &[u8], start: u32) -> Marked
     ensures { result ≡ handed_next (next_call marks.now start) }
 {
-    let next = marks::next(marks, start);
-    let found = next.found;
-    match found {
-        Found::None => Marked {
-            number: next.number,
-            found: 0,
-            row: 0,
-        },
-        Found::Row(row) => Marked {
-            number: next.number,
-            found: 1,
-            row: row as u32,
-        },
+    match marks::next(marks, start) {
+        Ok(None) => answer(0, 0, 0),
+        Ok(Some(row)) => answer(0, 1, u32::from(row)),
+        Err(refusal) => answer(u32::from(refusal), 0, 0),
     }
 }

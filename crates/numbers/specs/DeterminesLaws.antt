@@ -37,6 +37,20 @@ module _ {S : Signature} {c : Contract S} where
     once = λ κs a x y p q. ap (λ r. (r, x.1)) (p ∙ sym q) ∙ ap (λ w. (y.0, w)) (alike κs a x.1 y.1);
   }
 
+  -- one that equates what is made of the result, where the result can be had back, and where nothing is lent to be changed
+  pub by_made : {N : Type 0} {made : (κs : Lfts S.lifetimes) → Args S κs → Res S κs → N} {f : (κs : Lfts S.lifetimes) → Args S κs → N}
+      → c ≡ ensures S (λ κs a r e. made κs a r ≡ f κs a)
+      → (back : (κs : Lfts S.lifetimes) (a : Args S κs) → N → Res S κs)
+      → ((κs : Lfts S.lifetimes) (a : Args S κs) (r : Res S κs) → back κs a (made κs a r) ≡ r)
+      → ((κs : Lfts S.lifetimes) (a : Args S κs) (v w : Lasts (ended S) κs a) → v ≡ w)
+      → Determines S c
+  by_made whole back same alike = record {
+    ensured = _;
+    whole = whole;
+    once = λ κs a x y p q.
+        ap (λ r. (r, x.1)) (sym (same κs a x.0) ∙ ap (back κs a) (p ∙ sym q) ∙ same κs a y.0) ∙ ap (λ w. (y.0, w)) (alike κs a x.1 y.1);
+  }
+
   -- one that equates what is made of the outcome, where the outcome can be had back
   pub by_outcome : {O : Type 0} {made : (κs : Lfts S.lifetimes) → Args S κs → Res S κs → AtExit (ended S) κs → O}
       {f : (κs : Lfts S.lifetimes) → Args S κs → O}

@@ -2,6 +2,10 @@
 
 -- which number is given, and what a refusal leaves
 pub mod Refuse
+-- what an answer gives back and leaves
+pub mod Refusal
+-- an answer is known by its number and what it leaves
+pub mod RefusalLaws
 -- of numbers given back
 pub mod RefuseLaws
 -- ranges, and two tests that both hold
@@ -14,3 +18,5 @@ pub mod BufferLaws
 pub mod Determines
 -- contracts that do
 pub mod DeterminesLaws
+-- a walk over what is left of a slice
+pub mod Rest

@@ -11,7 +11,7 @@ use Rattle.numbers.specs.Between.{both}
 use Rattle.numbers.specs.Buffer.{over}
 use Rattle.numbers.specs.BufferLaws.{take_over}
 use Rattle.vram.specs.declared.Cycle.{Cycle}
-use Rattle.list.specs.declared.Bad.{Bad}
+use Rattle.list.specs.Meaning.{Bad}
 use Rattle.list.specs.Meaning.{bad, first_bad, count_of}
 use Rattle.list.proofs.JudgeLaws.{bad_first, bad_later, bad_zero, bad_never}
 use Rattle.list.specs.Encode.{encode_all}
@@ -21,8 +21,8 @@ use Rattle.planner.specs.Fill.{Fill, plan}
 use Rattle.planner.specs.Calls.{rectangle_ok, list_of}
 use Rattle.planner.proofs.CallLaws.{asked_plain}
 use Rattle.planner.proofs.ShapeLaws.{measure_number, measure_bytes}
-use Rattle.page.specs.declared.Room.{Room}
-use Rattle.page.specs.declared.Room.TheVariants.{Left}
+use Rattle.std.specs.Prelude.{Option}
+use Rattle.std.specs.Prelude.Option.{Some}
 use Rattle.page.specs.Rectangles.{Item, Names, Unreadable, whole, item_of, items, fill_of}
 use Rattle.page.specs.RectangleLaws.{item_not, items_nil}
 use Rattle.page.specs.Rooms.{takes, room_number}
@@ -124,12 +124,12 @@ accepted_any rows at to (i ∷ l) h =
 
 -- ---- fields in order, and then 13 and 15
 
-module _ (rows persistent : ℕ) (room : Room) (at : ℕ) where
+module _ (rows persistent : ℕ) (room : Option ℕ) (at : ℕ) where
   pub judged_nil : judged rows persistent room at [] ≡ bad (refuse (eqb persistent 0) 13 (room_number room)) 0
   unfolding judged fills
   judged_nil =
       bad_later (verdict rows at []) _ (ap (λ (v : Bad). v.number) (verdict_nil rows at))
-      ∙ ap (λ (r : Room). bad (refuse (eqb persistent 0) 13 (room_number r)) 0) (ap (λ (l : List ℕ). takes room (length l)) joined_none ∙ takes_none room)
+      ∙ ap (λ (r : Option ℕ). bad (refuse (eqb persistent 0) 13 (room_number r)) 0) (ap (λ (l : List ℕ). takes room (length l)) joined_none ∙ takes_none room)
 
   module _ (i : Item) (l : List Item) where
     pub judged_bad : number_of rows i ≢ 0 → judged rows persistent room at (i ∷ l) ≡ bad (number_of rows i) at
@@ -142,7 +142,7 @@ module _ (rows persistent : ℕ) (room : Room) (at : ℕ) where
         → judged rows persistent room at (i ∷ l) ≡ judged rows persistent (takes room n) (at + 15) l
     unfolding judged
     judged_good h n e =
-        ap₂ (λ (v : Bad) (r : Room). first_bad v (bad (refuse (eqb persistent 0) 13 (room_number r)) 0))
+        ap₂ (λ (v : Bad) (r : Option ℕ). first_bad v (bad (refuse (eqb persistent 0) 13 (room_number r)) 0))
         (verdict_good rows at i l h)
         (ap (takes room) e ∙ sym (takes_more room n (length (joined (fills rows l)))))
 
@@ -183,7 +183,7 @@ module _ (rows persistent : ℕ) (rectangles out : List ℕ) where
         (leb-true 1 rows b.0, leb-true rows 512 b.1)
 
     -- then the fields, and then 13 and 15
-    pub rows_later : v ≡ judged rows persistent (Left (length out)) 0 (items rectangles)
+    pub rows_later : v ≡ judged rows persistent (Some (length out)) 0 (items rectangles)
     unfolding page_refusal judged
     rows_later =
         bad_later (bad (refuse (leb 1 rows && leb rows 512) 2 0) 0) _ z
@@ -247,8 +247,8 @@ module _ (rows : ℕ) (out : List ℕ) (least : 1 ≤ rows) (most : rows ≤ 512
   unfolding room_number
   nothing persistent =
       rows_later rows persistent [] out (rw (le-leb 1 rows least, le-leb rows 512 most))
-      ∙ ap (judged rows persistent (Left (length out)) 0) (items_nil [] (omega arith))
-      ∙ judged_nil rows persistent (Left (length out)) 0
+      ∙ ap (judged rows persistent (Some (length out)) 0) (items_nil [] (omega arith))
+      ∙ judged_nil rows persistent (Some (length out)) 0
 
   -- gives an empty list
   pub page_empty : page_call rows 0 [] out ≡ outcome (refused 0 0) out

@@ -1,9 +1,9 @@
 -- The three ways out of the call: n and w are the number and the verdict that the code has. Assumes nothing.
 use Rattle.std.proofs.Common.{◌≡◌, sym, ap, ◌∙◌, ◌&&◌, List, ◌≢◌, ℕ, ◌≤◌, leb, length}
 use Rattle.numbers.specs.Refuse.{refuse}
-use Rattle.list.specs.declared.Bad.{Bad}
+use Rattle.list.specs.Meaning.{Bad}
 use Rattle.list.specs.Meaning.{bad}
-use Rattle.page.specs.declared.Room.TheVariants.{Left}
+use Rattle.std.specs.Prelude.Option.{Some}
 use Rattle.page.specs.Rectangles.{items}
 use Rattle.page.specs.Calls.{fills_of, plans, joined, verdict, judged, page_refusal, Outcome, refused, outcome, page_answer, page_call}
 use Rattle.page.proofs.CallLaws.{page_refuses, page_writes, rows_first, rows_fine, rows_later, accepted, accepted_zeros}
@@ -22,7 +22,7 @@ module _ (rows persistent : ℕ) (rectangles out : List ℕ) (n : ℕ) (e : n �
     pub fitted : (1 ≤ rows) × (rows ≤ 512)
     fitted = rows_fine rows persistent rectangles out (sym e ∙ z)
 
-    module _ (w : Bad) (q : w ≡ judged rows persistent (Left (length out)) 0 (items rectangles)) where
+    module _ (w : Bad) (q : w ≡ judged rows persistent (Some (length out)) 0 (items rectangles)) where
       found : w ≡ page_refusal rows persistent rectangles (length out)
       found = q ∙ sym (rows_later rows persistent rectangles out (sym e ∙ z))
 

@@ -1,16 +1,16 @@
 -- One turn of each loop, in the terms that the code has: s is what is left of the rectangles. Assumes nothing.
-use Rattle.std.proofs.Common.{◌≡◌, refl, sym, ap, ap₂, ◌∙◌, true, List, [], ◌∷◌, ◌≢◌, ℕ, ◌+◌, ◌-◌, ◌≤◌, ◌<◌, arith, eqb, length, take, drop}
+use Rattle.std.proofs.Common.{◌≡◌, refl, sym, ap, ap₂, ◌∙◌, true, List, [], ◌∷◌, ◌≢◌, ℕ, ◌+◌, ◌-◌, ◌≤◌, ◌<◌, arith, eqb, ne_eqb, length, take, drop}
 use lib.Seq.{sets, length-sets}
 use borrow.Rule.Slice.PartMut.{put_mid}
 use Rattle.numbers.specs.Refuse.{refuse}
 use Rattle.numbers.specs.Buffer.{over}
 use Rattle.numbers.specs.BufferLaws.{sets_append, over_sets, tail_part, tail_length, tail_stored}
-use Rattle.list.specs.Meaning.{bad}
+use Rattle.list.specs.Meaning.{Bad, bad, bad_at}
 use Rattle.planner.specs.declared.Filled.{Filled}
 use Rattle.planner.specs.Fill.{Fill, plan}
 use Rattle.planner.specs.Calls.{asked_refusal, list_of, Outcome, outcome, fill_call}
 use Rattle.planner.proofs.CallLaws.{asked_plain, filled, fill_fits}
-use Rattle.page.specs.declared.Room.{Room}
+use Rattle.std.specs.Prelude.{Option}
 use Rattle.page.specs.Rectangles.{rectangle_of, Item, Names, body, whole, item_of, items, fill_of}
 use Rattle.page.specs.RectangleLaws.{whole_length, item_whole, items_nil, items_whole, items_begin}
 use Rattle.page.specs.Rooms.{takes, room_number}
@@ -35,19 +35,24 @@ module _ (s : List ℕ) where
 
 -- ---- the checking loop; k is what the code has of the field, v what the loop yields
 
-module _ (rows : ℕ) (least : 1 ≤ rows) (most : rows ≤ 512) (persistent : ℕ) (left : Room) (s : List ℕ) where
+module _ (rows : ℕ) (least : 1 ≤ rows) (most : rows ≤ 512) (persistent : ℕ) (left : Option ℕ) (s : List ℕ) where
   pub end_check : length s ≡ 0 → (at : ℕ) → bad (refuse (eqb persistent 0) 13 (room_number left)) 0 ≡ judged rows persistent left at (items s)
   end_check h at = sym (ap (judged rows persistent left at) (items_nil s (omega arith)) ∙ judged_nil rows persistent left at)
+
+  -- v is what is answered of the field, at its offset
+  pub turn_bad : 0 < length s → (at : ℕ) (v : Bad) → v ≡ bad_at (measured rows (item_of s)).number at → v.number ≢ 0
+      → v ≡ judged rows persistent left at (items s)
+  turn_bad p at v e h =
+      let b = items_begin s p in
+      let n = measured_number rows least most (item_of s) in
+      let z : (measured rows (item_of s)).number ≢ 0 = λ z. h (ap (λ (x : Bad). x.number) (e ∙ ap (λ (x : ℕ). bad_at x at) z)) in
+      e
+      ∙ rw (ne_eqb (measured rows (item_of s)).number 0 z) (ap (λ (x : ℕ). bad x at) n)
+      ∙ sym (ap (judged rows persistent left at) b.1 ∙ judged_bad rows persistent left at (item_of s) b.0 (λ y. z (n ∙ y)))
 
   module _ (k : Filled) (e : k ≡ measured rows (item_of s)) where
     number_is : k.number ≡ number_of rows (item_of s)
     number_is = ap (λ (x : Filled). x.number) e ∙ measured_number rows least most (item_of s)
-
-    pub turn_bad : length s ≢ 0 → k.number ≢ 0 → (at : ℕ) → bad k.number at ≡ judged rows persistent left at (items s)
-    turn_bad p h at =
-        let b = items_begin s (omega arith) in
-        ap (λ (x : ℕ). bad x at) number_is
-        ∙ sym (ap (judged rows persistent left at) b.1 ∙ judged_bad rows persistent left at (item_of s) b.0 (λ z. h (number_is ∙ z)))
 
     module _ (z : k.number ≡ 0) where
       good : whole s ≡ true
@@ -56,7 +61,7 @@ module _ (rows : ℕ) (least : 1 ≤ rows) (most : rows ≤ 512) (persistent : �
       pub turn_fits : 15 ≤ length s
       turn_fits = whole_length s good
 
-      pub turn_good : (total : ℕ) → length s ≤ total → (room : Room) → room ≡ takes left k.bytes
+      pub turn_good : (total : ℕ) → length s ≤ total → (room : Option ℕ) → room ≡ takes left k.bytes
           → judged rows persistent room (total - length (take (length s - 15) (drop 15 s))) (items (take (length s - 15) (drop 15 s)))
           ≡ judged rows persistent left (total - length s) (items s)
       turn_good total l room r =
@@ -66,7 +71,7 @@ module _ (rows : ℕ) (least : 1 ≤ rows) (most : rows ≤ 512) (persistent : �
           let a : total - length (take (length s - 15) (drop 15 s)) ≡ at + 15 = omega arith in
           let m = ap (λ (x : Filled). x.number) (sym e) ∙ z in
           ap₂ (judged rows persistent room) a (ap items (rest_part s))
-          ∙ ap (λ (x : Room). judged rows persistent x (at + 15) (items (drop 15 s))) (r ∙ ap (λ (x : Filled). takes left x.bytes) e)
+          ∙ ap (λ (x : Option ℕ). judged rows persistent x (at + 15) (items (drop 15 s))) (r ∙ ap (λ (x : Filled). takes left x.bytes) e)
           ∙ sym
           (ap (judged rows persistent left at) (items_whole s good)
           ∙ judged_good rows persistent left at (item_of s) (items (drop 15 s)) (sym number_is ∙ z) (measured rows (item_of s)).bytes
@@ -119,6 +124,10 @@ module _ (rows : ℕ) (least : 1 ≤ rows) (most : rows ≤ 512) (s : List ℕ) 
 
     done : outcome r part ≡ outcome (filled 0 (length (list_of f)) (length (plan f))) (over (list_of f) (take (length list - at) (drop at list)))
     done = e ∙ fill_fits f (take (length list - at) (drop at list)) asked (omega (arith, left, bytes_are))
+
+    -- it is not refused
+    pub put_number : r.number ≡ 0
+    put_number = ap (λ (o : Outcome). o.answer.number) done
 
     put_bytes : r.bytes ≡ length (list_of f)
     put_bytes = ap (λ (o : Outcome). o.answer.bytes) done

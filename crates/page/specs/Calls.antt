@@ -1,16 +1,19 @@
 -- What a page answers and leaves, for every input: change request M-103. A refusal answers zeros besides and changes nothing. Assumes nothing.
-use Rattle.std.specs.Prelude.{ℕ, ◌+◌, ◌&&◌, cond, List, [], ◌∷◌, ◌++◌, eqb, leb, length, take}
+use Rattle.std.specs.Prelude.{ℕ, ◌+◌, ◌&&◌, cond, List, [], ◌∷◌, ◌++◌, eqb, leb, length, take, Option, Result}
+use Rattle.std.specs.Prelude.Result.{Ok, Err}
+use Rattle.numbers.specs.declared.Refusal.{Refusal}
+use Rattle.numbers.specs.Refusal.{number_of as number_of_refusal}
 use Rattle.numbers.specs.Refuse.{refuse, leaves}
 use Rattle.numbers.specs.Buffer.{over}
 use Rattle.vram.specs.declared.Cycle.{Cycle}
-use Rattle.list.specs.declared.Bad.{Bad}
-use Rattle.list.specs.Meaning.{bad, first_bad}
+use Rattle.list.specs.declared.Refused.{Refused}
+use Rattle.list.specs.Meaning.{Bad, bad, first_bad}
 use Rattle.list.specs.Encode.{encode_all}
 use Rattle.planner.specs.Fill.{Fill, plan}
 use Rattle.planner.specs.declared.Filled.{Filled}
 use Rattle.planner.specs.Calls.{rectangle_ok, measure_call}
 use Rattle.page.specs.declared.Paged.{Paged}
-use Rattle.page.specs.declared.Room.{Room}
+use Rattle.page.specs.declared.Totals.{Totals}
 use Rattle.page.specs.Rooms.{takes, room_number}
 use Rattle.page.specs.Rectangles.{Item, Names, Unreadable, items, fill_of}
 
@@ -52,7 +55,7 @@ page_refusal rows persistent rectangles room =
     (bad (refuse (eqb persistent 0) 13 (refuse (leb (length (joined (fills_of rows rectangles))) room) 15 0)) 0))
 
 -- its steps after the first, for fields that others may have come before: `room` and `at` are what those have left
-unfoldable pub judged : ℕ → ℕ → Room → ℕ → List Item → Bad
+unfoldable pub judged : ℕ → ℕ → Option ℕ → ℕ → List Item → Bad
 judged rows persistent room at l =
     first_bad (verdict rows at l) (bad (refuse (eqb persistent 0) 13 (room_number (takes room (length (joined (fills rows l)))))) 0)
 
@@ -60,6 +63,11 @@ judged rows persistent room at l =
 unfoldable pub measured : ℕ → Item → Filled
 measured rows (Names r) = measure_call (fill_of rows r)
 measured rows Unreadable = record { number = 4; bytes = 0; cycles = 0 }
+
+-- a field's answer without its offset
+abbrev pub unplaced : {T : Type 0} → Result T Refused → Result T Refusal
+unplaced (Ok made) = Ok made
+unplaced (Err bad) = Err bad.refusal
 
 -- ---- the call
 
@@ -74,6 +82,11 @@ outcome r out = record { answer = r; buffer = out }
 -- a refusal: zeros besides
 abbrev pub refused : ℕ → ℕ → Paged
 refused number place = record { number = number; place = place; bytes = 0; cycles = 0 }
+
+-- what C is answered: the totals of a list, or what refuses it
+abbrev pub paged_by : Result Totals Refused → Paged
+paged_by (Ok totals) = record { number = 0; place = 0; bytes = totals.bytes; cycles = totals.cycles }
+paged_by (Err bad) = refused (number_of_refusal bad.refusal) bad.place
 
 -- a list of so many cycles at the start of the buffer, where v refuses nothing
 abbrev pub page_answer : Bad → List ℕ → ℕ → List ℕ → Outcome

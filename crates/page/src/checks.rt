@@ -1,97 +1,74 @@
 // What refuses a page: each field is checked and its fill measured, before a byte is written.
-ghost use Rattle.std.specs.Prelude.{◌≡◌, ◌≤◌, ◌<◌, length};
-ghost use Rattle.page.specs.declared.Room.TheVariants.{Left};
+ghost use Rattle.std.specs.Prelude.{◌≡◌, ◌≤◌, ◌<◌, eqb, length};
+ghost use Rattle.std.specs.Prelude.Option.{Some};
+ghost use Rattle.numbers.specs.Refusal.{given_back};
+ghost use Rattle.numbers.specs.Refuse.{refuse};
+ghost use Rattle.list.specs.Meaning.{bad_of, bad_at};
+ghost use Rattle.planner.specs.Calls.{filled_by};
 ghost use Rattle.page.specs.Rectangles.{items, item_of};
 ghost use Rattle.page.specs.Rooms.{takes, room_number};
-ghost use Rattle.page.specs.Calls.{judged, measured};
+ghost use Rattle.page.specs.Calls.{unplaced, judged, measured};
 
-use crate::Room;
 use crate::rectangles::{rectangle_of, whole};
-use list::Bad;
-use numbers::refuse;
-use planner::{Filled, measure};
+use list::Refused;
+use numbers::{Refusal, refuse};
+use planner::Counts;
 
-// What is left of the room after n bytes more. Nothing is summed, so nothing can wrap.
-fn take_room(room: Room, n: u32) -> Room
+// What is left of the room after n bytes more; none where they pass it. Nothing is summed, so nothing can wrap.
+#[tactic(auto, unfolding(crate::specs::Rooms::takes))]
+fn take_room(room: Option<usize>, n: u32) -> Option<usize>
     ensures { result ≡ takes room n }
 {
-    match room {
-        Room::Left(left) => {
-            if (n as usize) <= left {
-                Room::Left(left - (n as usize))
-            } else {
-                Room::Passed
-            }
-        }
-        Room::Passed => Room::Passed,
-    }
+    room?.checked_sub(n as usize)
 }
 
-// 15 where the lists pass the room.
-fn room_number(room: Room) -> u32
-    ensures { result ≡ room_number room }
+// 13, and then 15 where the lists pass the room.
+#[tactic(auto, unfolding(crate::specs::Rooms::room_number))]
+fn end(persistent: u32, left: Option<usize>) -> Result<(), Refusal>
+    ensures { given_back result ≡ refuse (eqb persistent 0) 13 (room_number left) }
 {
-    match room {
-        Room::Left(_) => numbers::DONE,
-        Room::Passed => numbers::BUFFER_SHORT,
-    }
+    refuse(persistent == 0, Refusal::FillPersistent)?;
+    refuse(left.is_some(), Refusal::BufferShort)
 }
 
-// The number of the field at the head of some bytes, 4 or 12, and the bytes and cycles of its fill where it has none.
-fn measure_field(rows: u32, field: &[u8]) -> Filled
-    requires { (1 ≤ rows) × (rows ≤ 512) × (0 < length field.now) }
-    ensures { result ≡ measured rows (item_of field.now) }
+// The bytes and cycles of the fill that the field at the head of some bytes asks for; 4 or 12 refuses it.
+fn measure_field(rows: u32, field: &[u8]) -> Result<Counts, Refusal>
+    requires { 0 < length field.now }
+    ensures { filled_by result ≡ measured rows (item_of field.now) }
 {
     if whole(field) {
-        let r = rectangle_of(&field[3..15]);
-        measure(
-            rows,
-            r.first_row as u32,
-            r.end_row as u32,
-            r.first_column as u32,
-            r.end_column as u32,
-            r.mask,
-            0,
-        )
+        rectangle_of(&field[3..15]).fill(rows).measure()
     } else {
-        Filled {
-            number: numbers::FIELD_UNREADABLE,
-            bytes: 0,
-            cycles: 0,
-        }
+        Err(Refusal::FieldUnreadable)
     }
+}
+
+// The same, with the field's offset.
+fn measure_at(rows: u32, field: &[u8], place: u64) -> Result<Counts, Refused>
+    requires { 0 < length field.now }
+    ensures fill { filled_by (unplaced result) ≡ measured rows (item_of field.now) }
+    ensures place { bad_of result ≡ bad_at (measured rows (item_of field.now)).number place }
+{
+    measure_field(rows, field).map_err(|refusal| Refused { refusal, place })
 }
 
 // The first refused field, with its offset; then 13; then 15 for the joined length.
-pub(crate) fn check(rows: u32, persistent: u32, rectangles: &[u8], room: usize) -> Bad
+pub(crate) fn check(
+    rows: u32,
+    persistent: u32,
+    rectangles: &[u8],
+    room: usize,
+) -> Result<(), Refused>
     requires { (1 ≤ rows) × (rows ≤ 512) }
-    ensures { result ≡ judged rows persistent (Left room) 0 (items rectangles.now) }
+    ensures { bad_of result ≡ judged rows persistent (Some room) 0 (items rectangles.now) }
 {
     let mut rest = rectangles;
-    let mut left = Room::Left(room);
-    let bad = loop {
-        if rest.len() == 0 {
-            break Bad {
-                number: numbers::DONE,
-                place: 0,
-            };
-        }
-        let fill = measure_field(rows, rest);
-        let n = fill.number;
-        if n != numbers::DONE {
-            break Bad {
-                number: n,
-                place: (rectangles.len() - rest.len()) as u64,
-            };
-        }
-        left = take_room(left, fill.bytes);
+    let mut left = Some(room);
+    while !rest.is_empty() {
+        let place = (rectangles.len() - rest.len()) as u64;
+        let counts = measure_at(rows, rest, place)?;
+        left = take_room(left, counts.bytes);
         rest = &rest[15..];
-    };
-    if bad.number != numbers::DONE {
-        return bad;
     }
-    Bad {
-        number: refuse(persistent == 0, numbers::FILL_PERSISTENT, room_number(left)),
-        place: 0,
-    }
+    Ok(end(persistent, left)?)
 }

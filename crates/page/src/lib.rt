@@ -3,18 +3,21 @@
 #![tactic(auto)]
 
 ghost use Rattle.std.specs.Prelude.{◌≡◌};
-ghost use Rattle.page.specs.Calls.{refused, outcome, page_call};
+ghost use Rattle.page.specs.Rectangles.{fill_of};
+ghost use Rattle.page.specs.Calls.{paged_by, outcome, page_call};
 
 mod checks;
 mod lists;
 mod rectangles;
 
 use checks::check;
+use list::Refused;
 use lists::put_fills;
-use numbers::refuse;
+use numbers::{Refusal, refuse};
+use planner::Fill;
 
 // A rectangle with its bit mask and colour; the ends are not included.
-#[derive(Clone, Copy)]
+#[derive(Clone, Copy, Debug, PartialEq, Eq)]
 pub(crate) struct Rectangle {
     pub first_row: u16,
     pub end_row: u16,
@@ -24,16 +27,34 @@ pub(crate) struct Rectangle {
     pub colour: u16,
 }
 
-// What is left of the buffer after some lists, or that they pass it.
-#[derive(Clone, Copy)]
-pub(crate) enum Room {
-    Left(usize),
-    Passed,
+impl Rectangle {
+    // Its fill, for the rows fitted and a mask that is not persistent.
+    pub fn fill(self, rows: u32) -> Fill
+        ensures { result ≡ fill_of rows self }
+    {
+        Fill {
+            rows,
+            first_row: u32::from(self.first_row),
+            end_row: u32::from(self.end_row),
+            first_column: u32::from(self.first_column),
+            end_column: u32::from(self.end_column),
+            mask: self.mask,
+            colour: self.colour,
+            persistent: 0,
+        }
+    }
 }
 
-// The number given back, the offset of the field that it is about, and the bytes and cycles of the joined list.
+// How many bytes the joined list has, and how many cycles.
+#[derive(Clone, Copy, Debug, PartialEq, Eq)]
+pub struct Totals {
+    pub bytes: u64,
+    pub cycles: u64,
+}
+
+// What C gets of a page: the number given back, the offset of the field that it is about, and the totals: zeros where it is a refusal's.
 #[repr(C)]
-#[derive(Clone, Copy)]
+#[derive(Clone, Copy, Debug, PartialEq, Eq)]
 pub struct Paged {
     pub number: u32,
     pub place: u64,
@@ -41,33 +62,39 @@ pub struct Paged {
     pub cycles: u64,
 }
 
-// A refusal: zeros besides.
-fn refused(number: u32, place: u64) -> Paged
-    ensures { result ≡ refused number place }
-{
-    Paged {
-        number,
-        place,
-        bytes: 0,
-        cycles: 0,
+impl From<Result<Totals, Refused>> for Paged {
+    ghost from_gives = { λ answer paged. paged ≡ paged_by answer };
+
+    fn from(answer: Result<Totals, Refused>) -> Paged {
+        match answer {
+            Ok(Totals { bytes, cycles }) => Paged {
+                number: 0,
+                place: 0,
+                bytes,
+                cycles,
+            },
+            Err(Refused { refusal, place }) => Paged {
+                number: u32::from(refusal),
+                place,
+                bytes: 0,
+                cycles: 0,
+            },
+        }
     }
 }
 
-// The joined lists of a page's fills, at the start of the buffer. Persistent: 0 no, any other number yes.
+// The joined lists of a page's fills, at the start of the buffer.
+fn put(rows: u32, persistent: u32, rectangles: &[u8], list: &mut [u8]) -> Result<Totals, Refused>
+    ensures { outcome (paged_by result) list.new ≡ page_call rows persistent rectangles.now list.old }
+{
+    refuse((1 <= rows) & (rows <= 512), Refusal::MemoryLength)?;
+    check(rows, persistent, rectangles, list.len())?;
+    put_fills(rows, rectangles, list)
+}
+
+// The same, as C has it. Persistent: 0 no, any other number yes.
 pub fn linkshoar_page(rows: u32, persistent: u32, rectangles: &[u8], list: &mut [u8]) -> Paged
     ensures { outcome result list.new ≡ page_call rows persistent rectangles.now list.old }
 {
-    let n = refuse(
-        (1 <= rows) & (rows <= 512),
-        numbers::MEMORY_LENGTH,
-        numbers::DONE,
-    );
-    if n != numbers::DONE {
-        return refused(n, 0);
-    }
-    let bad = check(rows, persistent, rectangles, list.len());
-    if bad.number != numbers::DONE {
-        return refused(bad.number, bad.place);
-    }
-    put_fills(rows, rectangles, list)
+    Paged::from(put(rows, persistent, rectangles, list))
 }

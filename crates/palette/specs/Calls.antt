@@ -1,5 +1,7 @@
 -- What each public call answers and leaves, for every input. A refusal answers zeros besides and changes nothing. Assumes nothing.
-use Rattle.std.specs.Prelude.{ℕ, List, length, ◌==◌, nat_le}
+use Rattle.std.specs.Prelude.{ℕ, List, length, ◌==◌, nat_le, Result}
+use Rattle.numbers.specs.declared.Refusal.{Refusal}
+use Rattle.numbers.specs.Refusal.{given_back, left_by}
 use Rattle.numbers.specs.Refuse.{refuse, leaves}
 use Rattle.palette.specs.declared.Palette.{Palette}
 use Rattle.palette.specs.declared.Accessed.{Accessed}
@@ -8,6 +10,13 @@ use Rattle.palette.specs.Access.{after_write, table_after_write, byte_read, afte
 
 abbrev pub accessed : Palette → ℕ → ℕ → Accessed
 accessed p byte number = record { state = p; byte = byte; number = number }
+
+-- what an access comes to, by its answer: a write answers no byte, so it is 0
+abbrev pub accessed_by : Palette → Result (Palette × ℕ) Refusal → Accessed
+accessed_by before answer = let left = left_by (before, 0) answer in accessed left.0 left.1 (given_back answer)
+
+abbrev pub written_by : Palette → Result Palette Refusal → Accessed
+written_by before answer = accessed (left_by before answer) 0 (given_back answer)
 
 -- 1 a state the rules exclude, 3 palette not 768 bytes, 11 a select over the last one
 unfoldable pub access_refusal : ℕ → Palette → ℕ → ℕ → ℕ

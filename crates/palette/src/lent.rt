@@ -4,9 +4,9 @@ ghost use Rattle.palette.specs.Calls.{accessed, outcome, write_call, read_call};
 
 use crate::Palette;
 
-// What a read with the state lent answers: the number given back, and the byte.
+// What C gets of a read with the state lent: the number given back, and the byte.
 #[repr(C)]
-#[derive(Clone, Copy)]
+#[derive(Clone, Copy, Debug, PartialEq, Eq)]
 pub struct Byte {
     pub number: u32,
     pub byte: u8,
@@ -21,21 +21,27 @@ pub fn linkshoar_palette_write_lent(
 ) -> u32
     ensures { outcome (accessed state.new 0 result) table.new ≡ write_call state.old table.old select value }
 {
-    let before = *state;
-    let done = before.write(table, select, value);
-    *state = done.state;
-    done.number
+    match state.write(table, select, value) {
+        Ok(left) => {
+            *state = left;
+            0
+        }
+        Err(refusal) => u32::from(refusal),
+    }
 }
 
 // `Palette::read`, with the state left where it was lent.
 pub fn linkshoar_palette_read_lent(state: &mut Palette, table: &[u8], select: u32) -> Byte
     ensures { accessed state.new result.byte result.number ≡ read_call state.old table.now select }
 {
-    let before = *state;
-    let done = before.read(table, select);
-    *state = done.state;
-    Byte {
-        number: done.number,
-        byte: done.byte,
+    match state.read(table, select) {
+        Ok((left, byte)) => {
+            *state = left;
+            Byte { number: 0, byte }
+        }
+        Err(refusal) => Byte {
+            number: u32::from(refusal),
+            byte: 0,
+        },
     }
 }

@@ -6,16 +6,22 @@
 #![tactic(auto)]
 
 ghost use Rattle.std.specs.Prelude.{◌≡◌};
+ghost use Rattle.numbers.specs.Refusal.{given_back};
 ghost use Rattle.palette.specs.State.{fresh};
-ghost use Rattle.palette.specs.Calls.{access_refusal, outcome, write_call, read_call};
+ghost use Rattle.palette.specs.Calls.{access_refusal, outcome, written_by, accessed_by, write_call, read_call};
+
+use numbers::{Refusal, refuse};
 
 mod access;
 pub mod lent;
 mod state;
 
+// The colour table where its length has been judged: 256 entries of three bytes.
+pub type Table = [u8; 768];
+
 // The registers, by value. Every field is public: a state that the rules exclude can be built, and is refused.
 #[repr(C)]
-#[derive(Clone, Copy)]
+#[derive(Clone, Copy, Debug, PartialEq, Eq)]
 pub struct Palette {
     pub address: u8,
     pub phase: u8,
@@ -25,9 +31,9 @@ pub struct Palette {
     pub mask: u8,
 }
 
-// The state after an access, the byte answered (0 for a write), and the number given back.
+// What C gets of an access: the state after it, the byte answered (0 for a write), and the number given back.
 #[repr(C)]
-#[derive(Clone, Copy)]
+#[derive(Clone, Copy, Debug, PartialEq, Eq)]
 pub struct Accessed {
     pub state: Palette,
     pub byte: u8,
@@ -49,59 +55,51 @@ impl Palette {
     }
 
     // What refuses an access of select 0 to `last`. The table's length is checked whether the select uses the table or not.
-    fn access_refusal(self, last: u32, bytes: usize, select: u32) -> u32
-        ensures { result ≡ access_refusal last self bytes select }
+    fn access_refusal(self, last: u32, bytes: usize, select: u32) -> Result<(), Refusal>
+        ensures { given_back result ≡ access_refusal last self bytes select }
     {
-        if !self.ruled() {
-            return numbers::STATE_EXCLUDED;
-        }
-        if bytes != 768 {
-            return numbers::REGISTER_LENGTH;
-        }
-        if select > last {
-            return numbers::SELECT_OTHER;
-        }
-        numbers::DONE
+        refuse(self.ruled(), Refusal::StateExcluded)?;
+        refuse(bytes == 768, Refusal::RegisterLength)?;
+        refuse(select <= last, Refusal::SelectOther)
     }
 
-    // A write, of select 0 to 3.
-    pub fn write(self, table: &mut [u8], select: u32, value: u8) -> Accessed
-        ensures { outcome result table.new ≡ write_call self table.old select value }
+    // A write, of select 0 to 3. A select stays a number, since any other is refused with 11: an enum would ask more of callers.
+    pub fn write(self, table: &mut [u8], select: u32, value: u8) -> Result<Palette, Refusal>
+        ensures { outcome (written_by self result) table.new ≡ write_call self table.old select value }
     {
-        let n = self.access_refusal(3, table.len(), select);
-        if n != numbers::DONE {
-            return Accessed {
-                state: self,
-                byte: 0,
-                number: n,
-            };
-        }
-        let state = self.after_write(table, select, value);
-        Accessed {
-            state,
-            byte: 0,
-            number: numbers::DONE,
-        }
+        self.access_refusal(3, table.len(), select)?;
+        let table: &mut Table = table.as_mut_array().unwrap();
+        Ok(self.after_write(table, select, value))
     }
 
     // A read, of select 0 to 2. The byte is the one from before the access.
-    pub fn read(self, table: &[u8], select: u32) -> Accessed
-        ensures { result ≡ read_call self table.now select }
+    pub fn read(self, table: &[u8], select: u32) -> Result<(Palette, u8), Refusal>
+        ensures { accessed_by self result ≡ read_call self table.now select }
     {
-        let n = self.access_refusal(2, table.len(), select);
-        if n != numbers::DONE {
-            return Accessed {
-                state: self,
-                byte: 0,
-                number: n,
-            };
-        }
+        self.access_refusal(2, table.len(), select)?;
+        let table: &Table = table.as_array().unwrap();
         let state = self.after_read(table, select);
         let byte = self.byte_read(select);
-        Accessed {
-            state,
-            byte,
-            number: numbers::DONE,
+        Ok((state, byte))
+    }
+}
+
+impl Accessed {
+    // Of an access that is refused, the state from before it and the byte 0.
+    pub fn of(before: Palette, answer: Result<(Palette, u8), Refusal>) -> Accessed
+        ensures { result ≡ accessed_by before answer }
+    {
+        match answer {
+            Ok((state, byte)) => Accessed {
+                state,
+                byte,
+                number: 0,
+            },
+            Err(refusal) => Accessed {
+                state: before,
+                byte: 0,
+                number: u32::from(refusal),
+            },
         }
     }
 }

@@ -5,7 +5,7 @@ use Rattle.std.proofs.Math.Path.{ap}
 use Rattle.numbers.specs.Refuse.{refuse}
 use Rattle.numbers.specs.RefuseLaws.{refuse_zero, first_of_zero, leaves_before}
 use Rattle.vram.specs.declared.Vram.{Vram}
-use Rattle.vram.specs.declared.Moved.{Moved}
+use Rattle.vram.specs.Calls.{Moved}
 use Rattle.vram.specs.State.{ruled}
 use Rattle.numbers.specs.Between.{both}
 use Rattle.vram.specs.Serial.{clocks}

@@ -7,7 +7,7 @@ use Rattle.std.proofs.lemmas.List.{take-append-le, drop-append-le}
 use Rattle.numbers.specs.Buffer.{over}
 use Rattle.words.specs.Word.{high}
 use Rattle.vram.specs.declared.Vram.{Vram}
-use Rattle.vram.specs.declared.Answered.{Answered}
+use Rattle.vram.specs.Calls.{Answered}
 use Rattle.vram.specs.Serial.{clocked_words}
 use Rattle.vram.specs.SerialLaws.{clocked_words_length}
 use Rattle.vram.specs.High.{Agree}

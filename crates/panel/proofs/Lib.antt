@@ -1,4 +1,6 @@
 -- What belongs to no one function.
+-- clocks that are not refused
+pub mod Moved
 pub mod Stretch
 pub mod Stores
 pub mod Two

@@ -3,7 +3,7 @@ use Rattle.std.specs.Prelude.{ℕ, ◌*◌, ◌&&◌, List, eqb, leb, length}
 use Rattle.numbers.specs.Refuse.{refuse, first_of, leaves}
 use Rattle.numbers.specs.Buffer.{over}
 use Rattle.vram.specs.declared.Vram.{Vram}
-use Rattle.vram.specs.declared.Answered.{Answered}
+use Rattle.vram.specs.Calls.{Answered}
 use Rattle.vram.specs.State.{ruled}
 use Rattle.vram.specs.Serial.{clocks}
 use Rattle.vram.specs.Calls.{answered, clocks_refusal}

@@ -7,6 +7,7 @@ use Rattle.words.specs.Word.{high}
 use Rattle.vram.specs.declared.Vram.{Vram}
 use Rattle.vram.specs.Serial.{clocked_words}
 use Rattle.palette.specs.Table.{Colour, colour, gives}
+use Rattle.panel.specs.declared.Panel.{Panel as CodePanel}
 use Rattle.panel.specs.declared.Width.{Width}
 use Rattle.panel.specs.declared.Width.TheVariants.{Six, Eight}
 
@@ -44,6 +45,10 @@ pub record Panel : Type 0 where
 -- ours, by its rule of parts
 abbrev pub panel_of : (ℕ → ℕ) → ℕ → List ℕ → Panel
 panel_of parts mask table = record { pixel_of = pixel; part_of = parts; mask = mask; table = table }
+
+-- the code's
+abbrev pub shows : CodePanel → Panel
+shows p = panel_of (part_at p.width) p.mask p.table.now
 
 -- the pixel, ANDed with the pixel mask, names the entry shown
 abbrev pub entry_of : Panel → ℕ → ℕ

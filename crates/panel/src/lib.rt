@@ -8,18 +8,21 @@
 #![tactic(auto)]
 
 ghost use Rattle.std.specs.Prelude.{◌≡◌};
+ghost use Rattle.numbers.specs.Refusal.{given_back};
+ghost use Rattle.vram.specs.Calls.{answered_by};
 ghost use Rattle.panel.specs.Calls.{outcome, run_refusal, run_call_by, run_call, run_six_call};
 ghost use Rattle.panel.specs.Panel.{part_at};
 
 mod pixels;
 mod stretches;
 
-use numbers::refuse;
-use palette::Palette;
+use numbers::{Refusal, refuse};
+use palette::{Palette, Table};
 use stretches::run_bytes;
-use vram::{Answered, Vram};
+use vram::Vram;
 
-// What refuses a run: 1 and 3 for what is given, 10 and 14 by the number that the clocks give back, 15 for the buffer.
+// What refuses a run: 1 and 3 for what is given, 10 and 14 by what the clocks answer, 15 for the buffer.
+#[tactic(auto, unfolding(crate::specs::Calls::run_refusal))]
 fn refusal(
     state: Vram,
     palette: Palette,
@@ -27,29 +30,29 @@ fn refusal(
     table_bytes: usize,
     clocks: u32,
     bytes: usize,
-) -> u32
-    ensures { result ≡ run_refusal state palette serial_words table_bytes clocks bytes }
+) -> Result<(), Refusal>
+    ensures { given_back result ≡ run_refusal state palette serial_words table_bytes clocks bytes }
 {
-    let moved = state.clocks(clocks).number;
-    let n = refuse(
-        3 * (clocks as usize) <= bytes,
-        numbers::BUFFER_SHORT,
-        numbers::DONE,
-    );
-    let n = refuse(moved == numbers::DONE, moved, n);
-    let n = refuse(
-        (serial_words == 256) & (table_bytes == 768),
-        numbers::REGISTER_LENGTH,
-        n,
-    );
-    refuse(state.ruled() & palette.ruled(), numbers::STATE_EXCLUDED, n)
+    refuse(state.ruled() & palette.ruled(), Refusal::StateExcluded)?;
+    let lengths = (serial_words == 256) & (table_bytes == 768);
+    refuse(lengths, Refusal::RegisterLength)?;
+    state.clocks(clocks)?;
+    refuse(3 * (clocks as usize) <= bytes, Refusal::BufferShort)
 }
 
 // How many bits the panel takes for a part: six, as the palette has them, or eight, to which it is widened.
-#[derive(Clone, Copy)]
+#[derive(Clone, Copy, Debug, PartialEq, Eq)]
 pub enum Width {
     Six,
     Eight,
+}
+
+// What shows a word: the width of a part, the pixel mask and the colour table.
+#[derive(Clone, Copy)]
+pub(crate) struct Panel<'a> {
+    pub width: Width,
+    pub mask: u8,
+    pub table: &'a Table,
 }
 
 // A run of some clocks, shown with parts of this width, or blanked where blank is not 0. Both runs below are this one.
@@ -62,29 +65,18 @@ pub fn run_at(
     clocks: u32,
     blank: u32,
     out: &mut [u8],
-) -> Answered
-    ensures { outcome result out.new ≡ run_call_by (part_at width) state serial.now palette table.now clocks blank out.old }
+) -> Result<Vram, Refusal>
+    ensures { outcome (answered_by state result) out.new ≡ run_call_by (part_at width) state serial.now palette table.now clocks blank out.old }
 {
-    let n = refusal(state, palette, serial.len(), table.len(), clocks, out.len());
-    if n != numbers::DONE {
-        return Answered { state, number: n };
-    }
-    run_bytes(
-        state,
-        serial,
+    refusal(state, palette, serial.len(), table.len(), clocks, out.len())?;
+    let panel = Panel {
         width,
-        palette.mask,
-        table,
-        clocks,
-        blank,
-        out,
-    );
-    let moved = state.clocks(clocks);
-    let after = moved.state;
-    Answered {
-        state: after,
-        number: moved.number,
-    }
+        mask: palette.mask,
+        table: table.as_array().unwrap(),
+    };
+    run_bytes(panel, state, serial, clocks, blank, out);
+    let (after, _) = state.clocks(clocks).unwrap();
+    Ok(after)
 }
 
 // A run with parts of eight bits, 0 to 255: the default.
@@ -96,8 +88,8 @@ pub fn run(
     clocks: u32,
     blank: u32,
     out: &mut [u8],
-) -> Answered
-    ensures { outcome result out.new ≡ run_call state serial.now palette table.now clocks blank out.old }
+) -> Result<Vram, Refusal>
+    ensures { outcome (answered_by state result) out.new ≡ run_call state serial.now palette table.now clocks blank out.old }
 {
     run_at(
         Width::Eight,
@@ -120,8 +112,8 @@ pub fn run_six(
     clocks: u32,
     blank: u32,
     out: &mut [u8],
-) -> Answered
-    ensures { outcome result out.new ≡ run_six_call state serial.now palette table.now clocks blank out.old }
+) -> Result<Vram, Refusal>
+    ensures { outcome (answered_by state result) out.new ≡ run_six_call state serial.now palette table.now clocks blank out.old }
 {
     run_at(
         Width::Six,

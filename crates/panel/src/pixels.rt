@@ -2,11 +2,11 @@
 ghost use Rattle.std.specs.Prelude.{◌≡◌, ◌+◌, ◌*◌, ◌%◌, ◌≤◌, ◌<◌, length};
 ghost use Rattle.std.specs.Int.Bits.{bit_and};
 ghost use Rattle.palette.specs.Table.{store};
-ghost use Rattle.panel.specs.Panel.{pixel, part_at, panel_of, colour_of, bytes_of};
+ghost use Rattle.panel.specs.Panel.{pixel, part_at, shows, colour_of, bytes_of};
 ghost use Rattle.panel.specs.Two.{two};
 ghost use Rattle.numbers.specs.Buffer.{over};
 
-use crate::Width;
+use crate::{Panel, Width};
 
 // A word's pixel: its high byte; where that is 0 the word, which is then its low byte; where that is 255 the word inverted, which is then
 // its low byte inverted. Kept in 16 bits: one instruction less a pixel. 255 is told by the word: the compiler then chooses without a jump.
@@ -51,26 +51,25 @@ fn two_parts(width: Width, low: u8, high: u8) -> u16
 }
 
 // The i-th three bytes of the buffer take the colour that a word shows.
-fn show_word(word: u16, width: Width, mask: u8, table: &[u8], out: &mut [u8], i: usize)
-    requires { (length table.now ≡ 768) × (3 * i + 3 ≤ length out.old) }
-    ensures { out.new ≡ store out.old i (colour_of (panel_of (part_at width) mask table.now) word) }
+fn show_word(word: u16, panel: Panel, out: &mut [u8], i: usize)
+    requires { 3 * i + 3 ≤ length out.old }
+    ensures { out.new ≡ store out.old i (colour_of (shows panel.entry) word) }
 {
-    let at = place(word, mask);
-    let red_green = two_parts(width, table[at], table[at + 1]);
-    let blue = two_parts(width, table[at + 2], 0);
+    let table = panel.table;
+    let at = place(word, panel.mask);
+    let red_green = two_parts(panel.width, table[at], table[at + 1]);
+    let blue = two_parts(panel.width, table[at + 2], 0);
     out[3 * i] = (red_green % 256) as u8;
     out[3 * i + 1] = (red_green / 256) as u8;
     out[3 * i + 2] = (blue % 256) as u8;
 }
 
 // The words of a stretch, at the start of the buffer.
-pub(crate) fn show_words(words: &[u16], width: Width, mask: u8, table: &[u8], out: &mut [u8])
-    requires { (length table.now ≡ 768) × (3 * length words.now ≤ length out.old) }
-    ensures { out.new ≡ over (bytes_of (panel_of (part_at width) mask table.now) words.now) out.old }
+pub(crate) fn show_words(words: &[u16], panel: Panel, out: &mut [u8])
+    requires { 3 * length words.now ≤ length out.old }
+    ensures { out.new ≡ over (bytes_of (shows panel.entry) words.now) out.old }
 {
-    let mut i = 0;
-    while i < words.len() {
-        show_word(words[i], width, mask, table, out, i);
-        i += 1;
+    for (i, word) in words.iter().enumerate() {
+        show_word(*word, panel, out, i);
     }
 }

@@ -1,7 +1,8 @@
 -- Each public call's contract, as the compiler has it, requires nothing and determines the outcome. Assumes nothing.
-use Rattle.std.proofs.Common.{refl}
+use Rattle.std.proofs.Common.{refl, ap}
 use Rattle.numbers.specs.Determines.{Determines}
 use Rattle.numbers.specs.DeterminesLaws.{by_result, by_outcome}
+use Rattle.list.proofs.VerdictAnswer.{verdict_answer, verdict_is}
 use Rattle.pencil.specs.contracts.bits.has as has
 use Rattle.pencil.specs.contracts.bits.strobed as strobed
 use Rattle.pencil.specs.contracts.bits.let_through as let_through
@@ -31,18 +32,10 @@ bits_left_once = by_result refl (λ κs a v w. refl)
 
 pub run_once : Determines run.signature (λ M 𝓤. run.clauses {M = M} {𝓤 = 𝓤})
 run_once =
-    by_outcome refl
-    (λ κs a o. (
-      record { state = o.after.state; number = o.given.number; place = o.given.place },
-      (tt, (o.after.memory, (o.after.serial, (tt, tt)))),
-    ))
-    (λ κs a x. refl)
+    by_outcome refl (λ κs a o. (verdict_answer o.given o.after.state, (tt, (o.after.memory, (o.after.serial, (tt, tt))))))
+    (λ κs a x. ap (λ r. (r, x.1)) (verdict_is a.0 x.0))
 
 pub run_marked_once : Determines run_marked.signature (λ M 𝓤. run_marked.clauses {M = M} {𝓤 = 𝓤})
 run_marked_once =
-    by_outcome refl
-    (λ κs a o. (
-      record { state = o.after.state; number = o.given.number; place = o.given.place },
-      (tt, (o.after.memory, (o.after.serial, (o.marks, (tt, tt))))),
-    ))
-    (λ κs a x. refl)
+    by_outcome refl (λ κs a o. (verdict_answer o.given o.after.state, (tt, (o.after.memory, (o.after.serial, (o.marks, (tt, tt)))))))
+    (λ κs a x. ap (λ r. (r, x.1)) (verdict_is a.0 x.0))

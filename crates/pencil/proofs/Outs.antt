@@ -2,7 +2,7 @@
 use Rattle.std.proofs.Common.{◌≡◌, sym, ap, ◌∙◌, List, ◌≢◌, ℕ}
 use Rattle.vram.specs.Board.{Board}
 use Rattle.vram.specs.Step.{given_of, rows_of}
-use Rattle.list.specs.declared.Bad.{Bad}
+use Rattle.list.specs.Meaning.{Bad}
 use Rattle.list.specs.Meaning.{bad, Outcome}
 use Rattle.list.proofs.OutLaws.{finished}
 use Rattle.marks.specs.Calls.{gives, Noted, noted, mark_call}

@@ -2,17 +2,15 @@
 use Rattle.std.proofs.Common.{◌≡◌, refl, sym, ap, ap₂, ◌∙◌, subst, Bool, true, false, cond, List, [], ℕ, ◌+◌, ◌-◌, ◌*◌, ◌/◌, ◌%◌, ◌≤◌, ◌<◌, arith, mod-eq_of_lt, add-one, eqb, length, take, drop}
 use Rattle.numbers.specs.BufferLaws.{tail_part, tail_length}
 use Rattle.numbers.specs.Refuse.{first_of, leaves}
-use Rattle.numbers.specs.RefuseLaws.{first_of_zero}
-use Rattle.refusals.specs.RefusalLaws.{Placed, write_zero}
 use Rattle.vram.specs.declared.Vram.{Vram}
 use Rattle.vram.specs.declared.Cycle.{Cycle}
 use Rattle.vram.specs.declared.Cycle.TheVariants.{WordWrite, BlockWrite}
 use Rattle.vram.specs.Board.{Board, board, in_force}
-use Rattle.vram.specs.Refusal.{given}
 use Rattle.vram.specs.Step.{given_of, number, step_by, run_by}
 use Rattle.vram.specs.StepLaws.{steps_same}
 use Rattle.vram.proofs.CaseLaws.{cycle_after, step_is, number_first, refusal_word, refusal_block, run_none, run_next}
-use Rattle.vram.specs.Calls.{Outcome, cycle_call}
+use Rattle.vram.specs.Calls.{Answered, Outcome, cycle_call, Wrote}
+use Rattle.vram.proofs.Arms.{untouched}
 use Rattle.list.specs.declared.Head.{Head}
 use Rattle.list.specs.declared.Head.TheVariants.{Waits, Wrong, Whole}
 use Rattle.list.specs.Heads.{head_of}
@@ -39,13 +37,6 @@ module _ (m : List ℕ) (base colour columns mask strobes : ℕ) where
       ∙ ap₂ (λ (z : List ℕ) (n : ℕ). word_written z (base + j) colour n strobes) e (l ∙ ap (λ (n : ℕ). bits_left columns n mask) (mod-eq_of_lt h))
       ∙ ap (block_written m base colour columns mask strobes) (sym (add-one j))
 
--- ---- a write that is not refused lies in the memory
-
-pub write_placed : (n : ℕ) (s : Vram) (words serial row column masking mask strobes : ℕ) → n ≡ write_number s words serial row column masking mask strobes → n ≡ 0
-    → Placed (words / 512) row column
-write_placed n s words serial row column masking mask strobes e z =
-    write_zero (words / 512) row column masking mask strobes (first_of_zero (given s words serial) _ (sym e ∙ z)).1
-
 -- ---- a cycle: a write leaves what it leaves of the memory
 
 module _ (s : Vram) (m r : List ℕ) where
@@ -60,24 +51,30 @@ module _ (s : Vram) (m r : List ℕ) where
       go true = refl
       go false = refl
 
-  module _ (row column masking mask strobes : ℕ) (left : List ℕ) where
+  -- the state stays as it was, refused or done
+  stays : {n : ℕ} {made left : List ℕ} {given : Answered} → Wrote n s m made given left → given.state ≡ s
+  stays {n} w = ap (λ (g : Answered). g.state) w.answer ∙ sym (untouched n s)
+
+  module _ (row column masking mask strobes : ℕ) (left : List ℕ) (given : Answered) where
     abbrev refused : ℕ
     refused = write_number s (length m) (length r) row column masking mask strobes
 
-    pub word_step : (word : ℕ) → left ≡ leaves refused m (word_written m (512 * row + column) word (in_force s masking mask) strobes)
-        → board s left r ≡ step_by pencil (WordWrite row column word masking mask strobes) (board s m r)
+    pub word_step : (word : ℕ) → Wrote refused s m (word_written m (512 * row + column) word (in_force s masking mask) strobes) given left
+        → board given.state left r ≡ step_by pencil (WordWrite row column word masking mask strobes) (board s m r)
     unfolding pencil
-    word_step word =
+    word_step word w =
         let c = WordWrite row column word masking mask strobes in
-        write_step c refused _ (number_first c (board s m r) ∙ ap (first_of (given_of (board s m r))) (refusal_word _ _ row column word masking mask strobes)) refl left
+        ap (λ (x : Vram). board x left r) (stays w)
+        ∙ write_step c refused _ (number_first c (board s m r) ∙ ap (first_of (given_of (board s m r))) (refusal_word _ _ row column word masking mask strobes)) refl left w.memory
 
     pub block_step : (columns : ℕ)
-        → left ≡ leaves refused m (block_written m (512 * row + 4 * (column / 4)) s.colour columns (in_force s masking mask) strobes 4)
-        → board s left r ≡ step_by pencil (BlockWrite row column columns masking mask strobes) (board s m r)
+        → Wrote refused s m (block_written m (512 * row + 4 * (column / 4)) s.colour columns (in_force s masking mask) strobes 4) given left
+        → board given.state left r ≡ step_by pencil (BlockWrite row column columns masking mask strobes) (board s m r)
     unfolding pencil
-    block_step columns =
+    block_step columns w =
         let c = BlockWrite row column columns masking mask strobes in
-        write_step c refused _ (number_first c (board s m r) ∙ ap (first_of (given_of (board s m r))) (refusal_block _ _ row column columns masking mask strobes)) refl left
+        ap (λ (x : Vram). board x left r) (stays w)
+        ∙ write_step c refused _ (number_first c (board s m r) ∙ ap (first_of (given_of (board s m r))) (refusal_block _ _ row column columns masking mask strobes)) refl left w.memory
 
 -- any other cycle is `vram`'s: what that leaves is what the plain engine does
 pub other_step : (c : Cycle) (b : Board) (o : Outcome) → o ≡ cycle_call c b → o.after ≡ step_by pencil c b
@@ -96,11 +93,13 @@ module _ (s : List ℕ) (head : Head) (e : head ≡ head_of s) where
   over : cycles_of s ≡ [] → (b : Board) → b ≡ runs (cycles_of s) b
   over f b = sym (ap (λ (l : List Cycle). runs l b) f ∙ run_none (step_by pencil) b)
 
-  pub over_waits : head ≡ Waits → (b : Board) → b ≡ runs (cycles_of s) b
-  over_waits f = over (says Waits f)
-
-  pub over_wrong : head ≡ Wrong → (b : Board) → b ≡ runs (cycles_of s) b
-  over_wrong f = over (says Wrong f)
+  pub over_not : ((cycle : Cycle) (size : ℕ) → head ≡ Whole cycle size → ⊥) → (b : Board) → b ≡ runs (cycles_of s) b
+  over_not n = go head refl
+    where
+      go : (h : Head) → head ≡ h → (b : Board) → b ≡ runs (cycles_of s) b
+      go Waits f = over (says Waits f)
+      go Wrong f = over (says Wrong f)
+      go (Whole cycle size) f = absurd (n cycle size f)
 
   -- a whole field: its cycle is run, and the bytes after it are left
   module _ (cycle : Cycle) (size : ℕ) (f : head ≡ Whole cycle size) where

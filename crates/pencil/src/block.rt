@@ -21,10 +21,8 @@ pub fn bits_left(columns: u16, column: u16, mask: u16) -> u16
     ensures { result ≡ bits_left columns (column % 4) mask }
 {
     let mut left = mask;
-    let mut b: u16 = 0;
-    while b < 16 {
+    for b in 0..16 {
         left = keep_bit(left, columns, column, b);
-        b += 1;
     }
     left
 }
@@ -42,10 +40,8 @@ pub(crate) fn write_block(
     requires { base + 4 ≤ length memory.old }
     ensures { memory.new ≡ block_written memory.old base colour columns mask strobes 4 }
 {
-    let mut j: u16 = 0;
-    while j < 4 {
+    for j in 0..4 {
         let left = bits_left(columns, j, mask);
         write_word(memory, base + j as usize, colour, left, strobes);
-        j += 1;
     }
 }

@@ -7,7 +7,7 @@
 
 ghost use Rattle.std.specs.Prelude.{◌≡◌};
 ghost use Rattle.vram.specs.Board.{board};
-ghost use Rattle.list.specs.Meaning.{outcome};
+ghost use Rattle.list.specs.Meaning.{ran_by, outcome};
 ghost use Rattle.marks.specs.Calls.{outcome as marked_outcome};
 ghost use Rattle.pencil.specs.Calls.{run_call, marked_call};
 
@@ -17,25 +17,23 @@ mod cycles;
 mod runs;
 pub mod word;
 
-use list::{Ran, check};
+use list::{Refused, check};
 use marks::mark_list;
-use runs::finish;
+use runs::run_fields;
 use vram::Vram;
 
 // A list is checked whole, then run in order. A refusal changes nothing.
-pub fn run(state: Vram, memory: &mut [u16], serial: &mut [u16], list: &[u8]) -> Ran
-    ensures { outcome result memory.new serial.new ≡ run_call list.now (board state memory.old serial.old) }
+pub fn run(
+    state: Vram,
+    memory: &mut [u16],
+    serial: &mut [u16],
+    list: &[u8],
+) -> Result<Vram, Refused>
+    ensures { outcome (ran_by state result) memory.new serial.new ≡ run_call list.now (board state memory.old serial.old) }
 {
-    let n = state.given(memory.len(), serial.len());
-    if n != numbers::DONE {
-        return Ran {
-            state,
-            number: n,
-            place: 0,
-        };
-    }
-    let bad = check(list, memory.len() / 512, state.loaded);
-    finish(state, memory, serial, list, bad)
+    state.given(memory.len(), serial.len())?;
+    check(list, memory.len() / 512, state.loaded)?;
+    Ok(run_fields(state, memory, serial, list))
 }
 
 // The same, and the rows that its writes name are marked, as `marks` does it: a list that passes its check runs to its end.
@@ -45,17 +43,10 @@ pub fn run_marked(
     serial: &mut [u16],
     marks: &mut [u8],
     list: &[u8],
-) -> Ran
-    ensures { marked_outcome result memory.new serial.new marks.new ≡ marked_call list.now (board state memory.old serial.old) marks.old }
+) -> Result<Vram, Refused>
+    ensures { marked_outcome (ran_by state result) memory.new serial.new marks.new ≡ marked_call list.now (board state memory.old serial.old) marks.old }
 {
-    let n = state.given(memory.len(), serial.len());
-    if n != numbers::DONE {
-        return Ran {
-            state,
-            number: n,
-            place: 0,
-        };
-    }
-    let bad = mark_list(list, memory.len() / 512, state.loaded, marks);
-    finish(state, memory, serial, list, bad)
+    state.given(memory.len(), serial.len())?;
+    mark_list(list, memory.len() / 512, state.loaded, marks)?;
+    Ok(run_fields(state, memory, serial, list))
 }

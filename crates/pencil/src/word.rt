@@ -33,10 +33,8 @@ pub fn write_bits(old: u16, new: u16, mask: u16, strobes: u8) -> u16
     ensures { result ≡ written old new mask strobes }
 {
     let mut word = old;
-    let mut b: u16 = 0;
-    while b < 16 {
+    for b in 0..16 {
         word = write_bit(word, new, mask, strobes, b);
-        b += 1;
     }
     word
 }

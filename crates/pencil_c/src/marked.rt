@@ -3,7 +3,8 @@ ghost use Rattle.std.specs.Prelude.{◌≡◌};
 ghost use Rattle.marks_c.specs.Calls.{listed};
 ghost use Rattle.pencil_c.specs.Calls.{pencil_marked_call};
 
-use registers::{Ran, Registers, hand_ran, lawful, take};
+use registers::{Ran, Registers, excluded, hand_ran};
+use vram::Vram;
 
 // Checked whole, then run in order; the rows that its writes name are marked.
 pub fn linkshoar_pencil_run_marked(
@@ -15,13 +16,8 @@ pub fn linkshoar_pencil_run_marked(
 ) -> Ran
     ensures { listed result memory.new serial.new marks.new ≡ pencil_marked_call state memory.old serial.old marks.old list.now }
 {
-    if lawful(state) {
-        let ran = pencil::run_marked(take(state), memory, serial, marks, list);
-        return hand_ran(ran);
-    }
-    Ran {
-        state,
-        number: numbers::STATE_EXCLUDED,
-        place: 0,
+    match Vram::try_from(state) {
+        Ok(vram) => hand_ran(vram, pencil::run_marked(vram, memory, serial, marks, list)),
+        Err(refusal) => excluded(state, refusal),
     }
 }

@@ -3,7 +3,8 @@ ghost use Rattle.std.specs.Prelude.{◌≡◌};
 ghost use Rattle.registers.specs.Lists.{listed};
 ghost use Rattle.pencil_c.specs.Calls.{pencil_call};
 
-use registers::{Ran, Registers, hand_ran, lawful, take};
+use registers::{Ran, Registers, excluded, hand_ran};
+use vram::Vram;
 
 // Checked whole, then run in order.
 pub fn linkshoar_pencil_run(
@@ -14,13 +15,8 @@ pub fn linkshoar_pencil_run(
 ) -> Ran
     ensures { listed result memory.new serial.new ≡ pencil_call state memory.old serial.old list.now }
 {
-    if lawful(state) {
-        let ran = pencil::run(take(state), memory, serial, list);
-        return hand_ran(ran);
-    }
-    Ran {
-        state,
-        number: numbers::STATE_EXCLUDED,
-        place: 0,
+    match Vram::try_from(state) {
+        Ok(vram) => hand_ran(vram, pencil::run(vram, memory, serial, list)),
+        Err(refusal) => excluded(state, refusal),
     }
 }

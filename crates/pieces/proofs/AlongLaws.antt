@@ -4,7 +4,7 @@ use Rattle.std.proofs.Common.{sym, ap, ap₂, ◌∙◌, arith, add-one, length-
 use Rattle.numbers.specs.Between.{both}
 use Rattle.vram.specs.Board.{Board}
 use Rattle.vram.specs.Step.{given_of}
-use Rattle.list.specs.declared.Open.{Open}
+use Rattle.std.specs.Prelude.{Option}
 use Rattle.list.specs.Waits.{waits}
 use Rattle.pieces.specs.declared.Pieces.{Pieces}
 use Rattle.pieces.specs.Line.{Line, line, Port, port, limit, feed, piece}
@@ -28,14 +28,14 @@ come_along p b s l q b' c n i h g m e f k j =
 
 -- ---- a field of the part s of the bytes
 
-module _ (t : List ℕ) (i : ℕ) (s : List ℕ) (e : s ≡ drop i t) (u : i ≤ length t) (at : ℕ) (left : Open) (b : Board) (h : possible (line [] at 0 left) ≡ true)
-    (number size : ℕ) (later : Open) (b' : Board) (m : Meets at s left b number size later b') where
+module _ (t : List ℕ) (i : ℕ) (s : List ℕ) (e : s ≡ drop i t) (u : i ≤ length t) (at : ℕ) (left : Option ℕ) (b : Board) (h : possible (line [] at 0 left) ≡ true)
+    (number size : ℕ) (later : Option ℕ) (b' : Board) (m : Meets at s left b number size later b') where
   pub turn_inside : i + size ≤ length t
   turn_inside = omega (arith, m.inside, ap length e, length-drop i t)
 
   module _ (w : waits s ≡ true) where
     pub stay_possible : possible (line [] at 0 later) ≡ true
-    stay_possible = ap (λ (o : Open). possible (line [] at 0 o)) (m.waiting w).2 ∙ h
+    stay_possible = ap (λ (o : Option ℕ). possible (line [] at 0 o)) (m.waiting w).2 ∙ h
 
     pub stay_same : piece (port (line [] at 0 later) b') (drop i t) ≡ piece (port (line [] at 0 left) b) (drop i t)
     stay_same = meets_stay at s left b number size later b' m w i t (sym e) ∙ ap (piece (port (line [] at 0 left) b)) e
@@ -49,6 +49,17 @@ module _ (t : List ℕ) (i : ℕ) (s : List ℕ) (e : s ≡ drop i t) (u : i ≤
         ap (piece (port (standing number (at + size) later) b')) (sym (drop-drop size i t) ∙ ap (drop size) (sym e))
         ∙ meets_turn at s left b number size later b' m l w
         ∙ ap (piece (port (line [] at 0 left) b)) e
+
+    -- it takes no bytes
+    module _ (z : size ≡ 0) where
+      pub stop_possible : possible (standing number at later) ≡ true
+      stop_possible = let e : at ≡ at + size = omega (arith, z) in ap (λ (n : ℕ). possible (standing number n later)) e ∙ turn_possible
+
+      pub stop_same : piece (port (standing number at later) b') (drop i t) ≡ piece (port (line [] at 0 left) b) (drop i t)
+      stop_same =
+          let e : at ≡ at + size = omega (arith, z) in
+          let f : i ≡ i + size = omega (arith, z) in
+          ap₂ (λ (n j : ℕ). piece (port (standing number n later) b') (drop j t)) e f ∙ turn_same
 
     module _ (z : number ≡ 0) where
       pub turn_some : 0 < size

@@ -2,7 +2,7 @@
 use Rattle.std.specs.Prelude.{◌≡◌, true, false, List, [], ◌∷◌, ◌++◌, ◌≢◌, ℕ, ◌+◌, ◌≤◌, ◌<◌, length, take, set}
 use Rattle.std.proofs.Common.{sym, ap, ap₂, ◌∙◌, arith, length-append}
 use Rattle.vram.specs.Board.{Board}
-use Rattle.list.specs.declared.Open.{Open}
+use Rattle.std.specs.Prelude.{Option}
 use Rattle.list.specs.Waits.{waits}
 use Rattle.list.proofs.WaitsLaws.{waits_few}
 use Rattle.pieces.specs.declared.Pieces.{Pieces}
@@ -14,7 +14,7 @@ use Rattle.pieces.specs.Turns.{standing, Meets, Held}
 
 -- ---- the bytes of one field: n of thirteen
 
-module _ (h : List ℕ) (n at : ℕ) (left : Open) (b : Board) (k : Held h n at) (number size : ℕ) (later : Open) (b' : Board)
+module _ (h : List ℕ) (n at : ℕ) (left : Option ℕ) (b : Board) (k : Held h n at) (number size : ℕ) (later : Option ℕ) (b' : Board)
     (m : Meets at (take n h) left b number size later b') where
   abbrev Came : Pieces → Type 0
   Came q = (q ≡ pack (come at (take n h) left b).line) × (b' ≡ (come at (take n h) left b).on)

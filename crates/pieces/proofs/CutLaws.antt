@@ -5,8 +5,8 @@ use mathlib.Core.List.{flatten, foldl-append, map}
 use Rattle.std.proofs.lemmas.Bool.{eqb-false}
 use Rattle.vram.specs.Board.{Board}
 use Rattle.vram.specs.Step.{given_of, rows_of, run}
-use Rattle.list.specs.declared.Bad.{Bad}
-use Rattle.list.specs.declared.Open.TheVariants.{None}
+use Rattle.list.specs.Meaning.{Bad}
+use Rattle.std.specs.Prelude.Option.{None}
 use Rattle.list.specs.Fields.{fields}
 use Rattle.list.specs.Meaning.{bad, cycles, verdict_of, Outcome as ListOutcome}
 use Rattle.list.proofs.CallLaws.{verdict_judged}

@@ -6,7 +6,7 @@ use mathlib.Core.List.{flatten}
 use Rattle.std.proofs.lemmas.Bool.{eqb-false}
 use Rattle.vram.specs.Board.{Board}
 use Rattle.vram.specs.Step.{given_of, rows_of, run}
-use Rattle.list.specs.declared.Bad.{Bad}
+use Rattle.list.specs.Meaning.{Bad}
 use Rattle.list.specs.Fields.{Field, fields}
 use Rattle.list.specs.Meaning.{bad, verdict, cycles, cycles_of, verdict_of, run_call}
 use Rattle.list.proofs.CallLaws.{verdict_given, verdict_fields, accepted_given, accepted_fields, accepted_zeros, call_runs}

@@ -6,8 +6,8 @@ use Rattle.refusals.specs.Refusal.{refusing}
 use Rattle.vram.specs.Board.{Board}
 use Rattle.vram.specs.Step.{given_of, rows_of}
 use Rattle.vram.proofs.RuleLaws.{step_given}
-use Rattle.list.specs.declared.Open.{Open}
-use Rattle.list.specs.declared.Open.TheVariants.{None, At}
+use Rattle.std.specs.Prelude.{Option}
+use Rattle.std.specs.Prelude.Option.{None, Some}
 use Rattle.list.specs.Fields.{Field, Reads, Unreadable, field_of, size_of}
 use Rattle.list.specs.Open.{open_by}
 use Rattle.list.proofs.OpenLaws.{open_cases}
@@ -21,7 +21,7 @@ use Rattle.pieces.specs.PackLaws.{possible_going, going_possible, stopped_possib
 
 -- ---- nothing held
 
-open_possible : (at : ℕ) (left : Open) → at ≤ limit → before left at ≡ true → possible (line [] at 0 left) ≡ true
+open_possible : (at : ℕ) (left : Option ℕ) → at ≤ limit → before left at ≡ true → possible (line [] at 0 left) ≡ true
 open_possible at left l e = going_possible (line [] at 0 left) refl (record { waiting = waits_nil; fits = omega arith; earlier = e })
 
 pub fresh_possible : possible fresh ≡ true
@@ -41,19 +41,19 @@ field_named f b n =
     yes true = refl
     yes false = refl
 
-before_later : (left : Open) (at n : ℕ) → before left at ≡ true → before left (at + n) ≡ true
+before_later : (left : Option ℕ) (at n : ℕ) → before left at ≡ true → before left (at + n) ≡ true
 before_later None at n e = refl
-before_later (At place) at n e = let l = ltb-true place at e in lt-ltb place (at + n) (omega arith)
+before_later (Some place) at n e = let l = ltb-true place at e in lt-ltb place (at + n) (omega arith)
 
-field_before : (at : ℕ) (f : Field) (left : Open) → before left at ≡ true → before (open_by at f left) (at + size_of f) ≡ true
+field_before : (at : ℕ) (f : Field) (left : Option ℕ) → before left at ≡ true → before (open_by at f left) (at + size_of f) ≡ true
 field_before at f left e =
-    ⊎_elim (λ p. ap (λ (o : Open). before o (at + size_of f)) p.0 ∙ lt-ltb at (at + size_of f) (omega (arith, p.1)))
-    (⊎_elim (λ p. ap (λ (o : Open). before o (at + size_of f)) p) (λ p. ap (λ (o : Open). before o (at + size_of f)) p ∙ before_later left at (size_of f) e))
+    ⊎_elim (λ p. ap (λ (o : Option ℕ). before o (at + size_of f)) p.0 ∙ lt-ltb at (at + size_of f) (omega (arith, p.1)))
+    (⊎_elim (λ p. ap (λ (o : Option ℕ). before o (at + size_of f)) p) (λ p. ap (λ (o : Option ℕ). before o (at + size_of f)) p ∙ before_later left at (size_of f) e))
     (open_cases at f left)
 
 -- ---- one that ends within the limit
 
-module _ (at : ℕ) (f : Field) (left : Open) (b : Board) (e : before left at ≡ true) where
+module _ (at : ℕ) (f : Field) (left : Option ℕ) (b : Board) (e : before left at ≡ true) where
   pub met_possible : (number_on f b ≡ 0 → at + size_of f ≤ limit) → possible (met at f left b).line ≡ true
   met_possible l = go (eqb (number_on f b) 0) refl
     where
@@ -67,7 +67,7 @@ module _ (at : ℕ) (f : Field) (left : Open) (b : Board) (e : before left at �
 
 -- ---- a byte
 
-come_possible : (at : ℕ) (s : List ℕ) (left : Open) (b : Board) → before left at ≡ true → at + length s ≤ limit → possible (come at s left b).line ≡ true
+come_possible : (at : ℕ) (s : List ℕ) (left : Option ℕ) (b : Board) → before left at ≡ true → at + length s ≤ limit → possible (come at s left b).line ≡ true
 come_possible at s left b e l = go (waits s) refl
   where
     go : (t : Bool) → waits s ≡ t → possible (come at s left b).line ≡ true
@@ -104,14 +104,14 @@ unfolding draws
 draws_given (Reads c n) b = step_given c b
 draws_given Unreadable b = refl
 
-met_given : (at : ℕ) (f : Field) (left : Open) (b : Board) → given_of (met at f left b).on ≡ given_of b
+met_given : (at : ℕ) (f : Field) (left : Option ℕ) (b : Board) → given_of (met at f left b).on ≡ given_of b
 met_given at f left b = go (eqb (number_on f b) 0) refl
   where
     go : (t : Bool) → eqb (number_on f b) 0 ≡ t → given_of (met at f left b).on ≡ given_of b
     go true q = ap (λ (p : Port). given_of p.on) (met_run at f left b (eqb-true _ _ q)) ∙ draws_given f b
     go false q = ap (λ (p : Port). given_of p.on) (met_refused at f left b (eqb-false _ _ q))
 
-come_given : (at : ℕ) (s : List ℕ) (left : Open) (b : Board) → given_of (come at s left b).on ≡ given_of b
+come_given : (at : ℕ) (s : List ℕ) (left : Option ℕ) (b : Board) → given_of (come at s left b).on ≡ given_of b
 come_given at s left b = go (waits s) refl
   where
     go : (t : Bool) → waits s ≡ t → given_of (come at s left b).on ≡ given_of b

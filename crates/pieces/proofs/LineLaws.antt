@@ -1,10 +1,11 @@
 -- The rule case by case: a field, a byte, and what is answered. Assumes nothing.
-use Rattle.std.specs.Prelude.{◌≡◌, refl, true, false, List, [], ◌∷◌, ◌++◌, ◌≢◌, ℕ, ◌+◌, ◌≤◌, ◌<◌}
-use Rattle.std.proofs.Common.{sym, ap, ◌∙◌, arith, eq-eqb, ne_eqb, lt-ltb, le-ltb}
+use Rattle.std.specs.Prelude.{◌≡◌, refl, Bool, true, false, eqb, List, [], ◌∷◌, ◌++◌, ◌≢◌, ℕ, ◌+◌, ◌≤◌, ◌<◌}
+use Rattle.std.proofs.Common.{sym, ap, ◌∙◌, arith, eqb-true, eq-eqb, ne_eqb, lt-ltb, le-ltb}
 use Rattle.std.proofs.Math.ListN.{length}
+use Rattle.std.proofs.lemmas.Bool.{eqb-false}
 use Rattle.vram.specs.Board.{Board}
-use Rattle.list.specs.declared.Bad.{Bad}
-use Rattle.list.specs.declared.Open.{Open}
+use Rattle.list.specs.Meaning.{Bad}
+use Rattle.std.specs.Prelude.{Option}
 use Rattle.list.specs.Fields.{Field, field_of, size_of}
 use Rattle.list.specs.Open.{open_by}
 use Rattle.list.specs.Meaning.{bad, left_behind}
@@ -14,7 +15,7 @@ use Rattle.pieces.specs.Line.{Line, line, refused, Port, port, limit, number_on,
 
 -- ---- a field
 
-module _ (at : ℕ) (f : Field) (left : Open) (b : Board) where
+module _ (at : ℕ) (f : Field) (left : Option ℕ) (b : Board) where
   pub met_run : number_on f b ≡ 0 → met at f left b ≡ port (line [] (at + size_of f) 0 (open_by at f left)) (draws f b)
   unfolding met
   met_run z = rw (eq-eqb (number_on f b) 0 z)
@@ -25,7 +26,7 @@ module _ (at : ℕ) (f : Field) (left : Open) (b : Board) where
 
 -- ---- a byte
 
-module _ (at : ℕ) (s : List ℕ) (left : Open) (b : Board) where
+module _ (at : ℕ) (s : List ℕ) (left : Option ℕ) (b : Board) where
   pub come_waits : waits s ≡ true → come at s left b ≡ port (line s at 0 left) b
   unfolding come
   come_waits h = rw h
@@ -64,9 +65,19 @@ module _ (l : Line) where
   unfolding so_far
   so_far_kept n = rw (ne_eqb l.number 0 n)
 
-  pub last_kept : l.number ≢ 0 → at_last l ≡ bad l.number l.start
+  pub so_far_zero : bad 0 0 ≡ so_far l → l.number ≡ 0
+  so_far_zero e = go (eqb l.number 0) refl
+    where
+      go : (t : Bool) → eqb l.number 0 ≡ t → l.number ≡ 0
+      go true q = eqb-true _ _ q
+      go false q = sym (ap (λ (v : Bad). v.number) (e ∙ so_far_kept (eqb-false _ _ q)))
+
+  pub last_bad : (v : Bad) → v ≡ so_far l → v.number ≢ 0 → v ≡ at_last l
   unfolding at_last
-  last_kept n = bad_first (so_far l) _ (λ z. n (sym (ap (λ (v : Bad). v.number) (so_far_kept n)) ∙ z)) ∙ so_far_kept n
+  last_bad v e n = e ∙ sym (bad_first (so_far l) _ (λ z. n (ap (λ (w : Bad). w.number) e ∙ z)))
+
+  pub last_kept : l.number ≢ 0 → at_last l ≡ bad l.number l.start
+  last_kept n = sym (last_bad (bad l.number l.start) (sym (so_far_kept n)) n)
 
   module _ (z : l.number ≡ 0) where
     pub last_cut : length l.held ≢ 0 → at_last l ≡ bad 4 l.start

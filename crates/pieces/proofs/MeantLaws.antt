@@ -9,8 +9,8 @@ use Rattle.vram.specs.Step.{given_of, rows_of, step, run}
 use Rattle.vram.proofs.KeptLaws.{step_loaded}
 use Rattle.vram.proofs.RuleLaws.{step_given}
 use Rattle.vram.proofs.CaseLaws.{run_none, run_next, step_rows, number_is}
-use Rattle.list.specs.declared.Bad.{Bad}
-use Rattle.list.specs.declared.Open.{Open}
+use Rattle.list.specs.Meaning.{Bad}
+use Rattle.std.specs.Prelude.{Option}
 use Rattle.list.specs.Fields.{Field, Reads, Unreadable, whole, field_of, size_of, fields}
 use Rattle.list.proofs.FieldLaws.{fields_nil}
 use Rattle.list.specs.Open.{open_by}
@@ -25,11 +25,11 @@ use Rattle.pieces.specs.Meant.{meant, passing, ended}
 
 -- ---- field by field
 
-meant_nil : (at : ℕ) (left : Open) (b : Board) → meant at [] left b ≡ gives (left_behind left) b
+meant_nil : (at : ℕ) (left : Option ℕ) (b : Board) → meant at [] left b ≡ gives (left_behind left) b
 unfolding meant
 meant_nil at left b = refl
 
-module _ (at : ℕ) (f : Field) (fs : List Field) (left : Open) (b : Board) where
+module _ (at : ℕ) (f : Field) (fs : List Field) (left : Option ℕ) (b : Board) where
   meant_run : number_on f b ≡ 0 → meant at (f ∷ fs) left b ≡ meant (at + size_of f) fs (open_by at f left) (draws f b)
   unfolding meant
   meant_run z = rw (eq-eqb (number_on f b) 0 z)
@@ -40,7 +40,7 @@ module _ (at : ℕ) (f : Field) (fs : List Field) (left : Open) (b : Board) wher
 
 -- ---- the end of the bytes
 
-done : (h : List ℕ) (at : ℕ) (left : Open) (b : Board) → waits h ≡ true → ended (port (line h at 0 left) b) ≡ meant at (fields h) left b
+done : (h : List ℕ) (at : ℕ) (left : Option ℕ) (b : Board) → waits h ≡ true → ended (port (line h at 0 left) b) ≡ meant at (fields h) left b
 done [] at left b k =
     ap (λ (v : Bad). gives v b) (last_left (line [] at 0 left) refl refl)
     ∙ sym (ap (λ (fs : List Field). meant at fs left b) (fields_nil [] (omega arith)) ∙ meant_nil at left b)
@@ -53,8 +53,8 @@ done (x ∷ h) at left b k =
 
 -- ---- bytes after waiting ones, if it is so for those after the first of them
 
-module _ (x : ℕ) (s h : List ℕ) (at : ℕ) (left : Open) (b : Board) (k : waits h ≡ true) (l : at + (length h + length (x ∷ s)) ≤ limit)
-    (ih : (h : List ℕ) (at : ℕ) (left : Open) (b : Board) → waits h ≡ true → at + (length h + length s) ≤ limit
+module _ (x : ℕ) (s h : List ℕ) (at : ℕ) (left : Option ℕ) (b : Board) (k : waits h ≡ true) (l : at + (length h + length (x ∷ s)) ≤ limit)
+    (ih : (h : List ℕ) (at : ℕ) (left : Option ℕ) (b : Board) → waits h ≡ true → at + (length h + length s) ≤ limit
     → ended (piece (port (line h at 0 left) b) s) ≡ meant at (fields (h ++ s)) left b) where
   abbrev t : List ℕ
   t = h ++ x ∷ []
@@ -91,7 +91,7 @@ module _ (x : ℕ) (s h : List ℕ) (at : ℕ) (left : Open) (b : Board) (k : wa
       ∙ settles (whole t) refl (eqb (number_on (field_of t) b) 0) refl
       ∙ ap (λ (fs : List Field). meant at fs left b) (sym (settled_fields h x s k q))
 
-pub bytes_meant : (s h : List ℕ) (at : ℕ) (left : Open) (b : Board) → waits h ≡ true → at + (length h + length s) ≤ limit
+pub bytes_meant : (s h : List ℕ) (at : ℕ) (left : Option ℕ) (b : Board) → waits h ≡ true → at + (length h + length s) ≤ limit
     → ended (piece (port (line h at 0 left) b) s) ≡ meant at (fields (h ++ s)) left b
 bytes_meant [] h at left b k l = done h at left b k ∙ ap (λ (t : List ℕ). meant at (fields t) left b) (sym (append-nil h))
 bytes_meant (x ∷ s) h at left b k l =
@@ -120,7 +120,7 @@ field_drawn Unreadable b g z = absurd (omega (arith, number_unreadable (rows_of 
 
 -- ---- judged as they run, fields get the number and the place that they get when all are judged before
 
-pub meant_given : (fs : List Field) (at : ℕ) (left : Open) (b : Board) → given_of b ≡ 0
+pub meant_given : (fs : List Field) (at : ℕ) (left : Option ℕ) (b : Board) → given_of b ≡ 0
     → (meant at fs left b).given ≡ judged (rows_of b) b.state.loaded left at fs
 meant_given [] at left b g = ap (λ (o : Outcome). o.given) (meant_nil at left b) ∙ sym (judged_nil (rows_of b) b.state.loaded left at)
 meant_given (f ∷ fs) at left b g = go (eqb (number_on f b) 0) refl (meant_given fs (at + size_of f) (open_by at f left) (draws f b))
@@ -151,7 +151,7 @@ draws_cycle Unreadable fs b z = absurd (omega (arith, number_unreadable (rows_of
 no_cycles : (b : Board) → b ≡ run (cycles []) b
 no_cycles b = sym (ap (λ (l : List Cycle). run l b) cycles_none ∙ run_none step b)
 
-pub meant_after : (fs : List Field) (at : ℕ) (left : Open) (b : Board) → given_of b ≡ 0
+pub meant_after : (fs : List Field) (at : ℕ) (left : Option ℕ) (b : Board) → given_of b ≡ 0
     → (meant at fs left b).after ≡ run (cycles (passing (rows_of b) b.state.loaded fs)) b
 unfolding passing
 meant_after [] at left b g = ap (λ (o : Outcome). o.after) (meant_nil at left b) ∙ no_cycles b

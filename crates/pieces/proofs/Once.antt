@@ -1,7 +1,8 @@
 -- Each public call's contract, as the compiler has it, requires nothing and determines the outcome. Assumes nothing.
-use Rattle.std.proofs.Common.{refl}
+use Rattle.std.proofs.Common.{refl, ap}
 use Rattle.numbers.specs.Determines.{Determines}
 use Rattle.numbers.specs.DeterminesLaws.{by_result, by_outcome}
+use Rattle.list.proofs.VerdictAnswer.{verdict_answer, verdict_is}
 use Rattle.pieces.specs.contracts.fresh as fresh
 use Rattle.pieces.specs.contracts.take as take
 use Rattle.pieces.specs.contracts.end as end
@@ -13,13 +14,13 @@ pub take_once : Determines take.signature (λ M 𝓤. take.clauses {M = M} {𝓤
 take_once =
     by_outcome refl
     (λ κs a o. (
-      record { state = o.after.state; pieces = o.pieces; number = o.given.number; place = o.given.place },
+      record { state = o.after.state; pieces = o.pieces; answer = verdict_answer o.given tt },
       (tt, (tt, (o.after.memory, (o.after.serial, (tt, tt))))),
     ))
-    (λ κs a x. refl)
+    (λ κs a x. ap (λ r. (record { state = x.0.state; pieces = x.0.pieces; answer = r }, x.1)) (verdict_is tt x.0.answer))
 
 pub end_once : Determines end.signature (λ M 𝓤. end.clauses {M = M} {𝓤 = 𝓤})
 end_once =
     by_outcome refl
-    (λ κs a o. (record { state = o.after.state; pieces = o.pieces; number = o.given.number; place = o.given.place }, (tt, (tt, (tt, (tt, tt))))))
-    (λ κs a x. refl)
+    (λ κs a o. (record { state = o.after.state; pieces = o.pieces; answer = verdict_answer o.given tt }, (tt, (tt, (tt, (tt, tt))))))
+    (λ κs a x. ap (λ r. (record { state = x.0.state; pieces = x.0.pieces; answer = r }, x.1)) (verdict_is tt x.0.answer))

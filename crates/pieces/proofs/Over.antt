@@ -8,9 +8,9 @@ use Rattle.std.proofs.lemmas.Bool.{eqb-false}
 use Rattle.refusals.specs.Refusal.{refusing}
 use Rattle.vram.specs.Board.{Board}
 use Rattle.vram.specs.Step.{given_of, rows_of, run}
-use Rattle.list.specs.declared.Bad.{Bad}
-use Rattle.list.specs.declared.Open.{Open}
-use Rattle.list.specs.declared.Open.TheVariants.{None, At}
+use Rattle.list.specs.Meaning.{Bad}
+use Rattle.std.specs.Prelude.{Option}
+use Rattle.std.specs.Prelude.Option.{None, Some}
 use Rattle.list.specs.Fields.{fields}
 use Rattle.list.specs.Open.{open_of}
 use Rattle.list.specs.Meaning.{bad, verdict, cycles, left_behind, first_bad, judged, Outcome as ListOutcome}
@@ -28,9 +28,9 @@ use Rattle.pieces.specs.Calls.{Outcome}
 use Rattle.pieces.specs.Cutting.{cut_call}
 use Rattle.pieces.proofs.CutLaws.{ends_given, ends_joined, new_meant, new_after}
 
-left_number : (left : Open) (n : ℕ) → (left_behind left).number ≡ n → n ≢ 0 → n ≡ 20
+left_number : (left : Option ℕ) (n : ℕ) → (left_behind left).number ≡ n → n ≢ 0 → n ≡ 20
 left_number None n e h = absurd (h (sym e ∙ ap (λ (v : Bad). v.number) left_none))
-left_number (At place) n e h = sym e ∙ ap (λ (v : Bad). v.number) (left_at place)
+left_number (Some place) n e h = sym e ∙ ap (λ (v : Bad). v.number) (left_at place)
 
 module _ (a : List ℕ) (x : ℕ) (t : List ℕ) (full : length a ≡ limit) (b : Board) (g : given_of b ≡ 0) where
   abbrev p : Port

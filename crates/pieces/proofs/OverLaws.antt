@@ -4,7 +4,7 @@ use Rattle.std.proofs.Common.{sym, ap, ◌∙◌, arith, length-append, eqb-true
 use Rattle.std.proofs.lemmas.Bool.{eqb-false}
 use Rattle.vram.specs.Board.{Board}
 use Rattle.vram.specs.Step.{rows_of}
-use Rattle.list.specs.declared.Open.{Open}
+use Rattle.std.specs.Prelude.{Option}
 use Rattle.list.specs.Fields.{field_of}
 use Rattle.list.proofs.VerdictLaws.{size_whole, accepted_whole}
 use Rattle.list.specs.Waits.{waits}
@@ -20,7 +20,7 @@ abbrev pub far : Port → ℕ
 far p = p.line.start + length p.line.held
 
 -- a byte makes it one more: h are waiting bytes at an offset
-module _ (at : ℕ) (h : List ℕ) (x : ℕ) (left : Open) (b : Board) (k : waits h ≡ true) where
+module _ (at : ℕ) (h : List ℕ) (x : ℕ) (left : Option ℕ) (b : Board) (k : waits h ≡ true) where
   abbrev t : List ℕ
   t = h ++ x ∷ []
 

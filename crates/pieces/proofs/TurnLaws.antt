@@ -2,6 +2,11 @@
 use Rattle.std.specs.Prelude.{◌≡◌, refl, Bool, true, false, List, [], ◌≢◌, ℕ, ◌+◌, ◌≤◌, ◌<◌, eqb, length, drop}
 use Rattle.std.proofs.Common.{sym, ap, ap₂, ◌∙◌, subst, true≢false, arith, add-zero, ne_eqb, eqb-true}
 use Rattle.std.proofs.lemmas.Bool.{eqb-false}
+use Rattle.std.specs.Prelude.{Result, is_ok}
+use Rattle.std.specs.Prelude.Result.{Ok, Err}
+use Rattle.numbers.specs.declared.Refusal.{Refusal}
+use Rattle.numbers.specs.Refusal.{given_back}
+use Rattle.numbers.specs.RefusalLaws.{number_not_zero}
 use Rattle.vram.specs.declared.Cycle.{Cycle}
 use Rattle.vram.specs.Board.{Board}
 use Rattle.vram.specs.Step.{given_of, rows_of, number, step}
@@ -11,7 +16,7 @@ use Rattle.vram.proofs.CaseLaws.{cycle_number, cycle_after, number_is}
 use Rattle.vram.specs.Calls.{Outcome, cycle_call}
 use Rattle.list.specs.declared.Head.{Head}
 use Rattle.list.specs.declared.Head.TheVariants.{Waits, Wrong, Whole}
-use Rattle.list.specs.declared.Open.{Open}
+use Rattle.std.specs.Prelude.{Option}
 use Rattle.list.specs.Tags.{len_of, cycle_of}
 use Rattle.list.specs.TagLaws.{len_most}
 use Rattle.list.specs.Fields.{tag, body, whole, field_of}
@@ -31,6 +36,16 @@ use Rattle.pieces.specs.PackLaws.{possible_going}
 use Rattle.pieces.proofs.KeepLaws.{met_possible}
 use Rattle.pieces.specs.Turns.{standing, Meets}
 
+-- ---- whether an answer refuses
+
+pub done_number : {T : Type 0} (answer : Result T Refusal) → is_ok answer ≡ true → given_back answer ≡ 0
+done_number (Ok made) h = refl
+done_number (Err refusal) h = absurd (true≢false (sym h))
+
+pub refused_number : {T : Type 0} (answer : Result T Refusal) → is_ok answer ≡ false → given_back answer ≢ 0
+refused_number (Ok made) h = absurd (true≢false h)
+refused_number (Err refusal) h = number_not_zero refusal
+
 -- ---- the field at the head of some bytes, by what the code has of it
 
 module _ (s : List ℕ) where
@@ -41,7 +56,7 @@ module _ (s : List ℕ) where
   pub whole_some : (c : Cycle) (size : ℕ) → head_of s ≡ Whole c size → 0 < length s
   whole_some c size e = omega (arith, whole_length s (told (Whole c size) e).0)
 
-module _ (at : ℕ) (s : List ℕ) (left : Open) (b : Board) (g : given_of b ≡ 0) where
+module _ (at : ℕ) (s : List ℕ) (left : Option ℕ) (b : Board) (g : given_of b ≡ 0) where
   pub meets_waits : head_of s ≡ Waits → (true ≡ waits s) × Meets at s left b 0 0 left b
   meets_waits e =
       let w : waits s ≡ true = told s Waits e in (
@@ -107,7 +122,7 @@ module _ (at : ℕ) (s : List ℕ) (left : Open) (b : Board) (g : given_of b ≡
           (met_refused at (field_of s) left b (λ z. k (sym same_number ∙ z))
           ∙ ap₂ (λ (i : ℕ) (x : Board). port (refused i at) x) (same_number ∙ sym got) (sym (left_on ∙ step_refuses _ c b k)))
 
-      pub meets_run : o.given ≡ 0 → (later : Open) → later ≡ opens (tag s) at left → (false ≡ waits s) × Meets at s left b 0 size later o.after
+      pub meets_run : o.given ≡ 0 → (later : Option ℕ) → later ≡ opens (tag s) at left → (false ≡ waits s) × Meets at s left b 0 size later o.after
       meets_run z later q =
           let k = (told s (Whole c size) e).2 in (
             sym (whole_settled s w),
@@ -119,14 +134,14 @@ module _ (at : ℕ) (s : List ℕ) (left : Open) (b : Board) (g : given_of b ≡
               run = λ h n. (w, k);
               settled =
                   λ h. met_run at (field_of s) left b (same_number ∙ sym got ∙ z)
-                  ∙ ap₂ (λ (n : ℕ) (y : Open). port (line [] (at + n) 0 y) (draws (field_of s) b)) (size_whole s w ∙ sym k) (open_whole s w at left ∙ sym q)
+                  ∙ ap₂ (λ (n : ℕ) (y : Option ℕ). port (line [] (at + n) 0 y) (draws (field_of s) b)) (size_whole s w ∙ sym k) (open_whole s w at left ∙ sym q)
                   ∙ ap (port (line [] (at + size) 0 later)) (drawn ∙ sym left_on);
             },
           )
 
 -- ---- with nothing held: what the field leaves is what its bytes leave
 
-module _ (at : ℕ) (s : List ℕ) (left : Open) (b : Board) (n k : ℕ) (later : Open) (b' : Board) (m : Meets at s left b n k later b') where
+module _ (at : ℕ) (s : List ℕ) (left : Option ℕ) (b : Board) (n k : ℕ) (later : Option ℕ) (b' : Board) (m : Meets at s left b n k later b') where
   abbrev now : Port
   now = port (standing n (at + k) later) b'
 
@@ -134,14 +149,14 @@ module _ (at : ℕ) (s : List ℕ) (left : Open) (b : Board) (n k : ℕ) (later 
   unmoved w =
       let e = m.waiting w in
       ap₂ (λ (i j : ℕ). port (standing i (at + j) later) b') e.0 e.1
-      ∙ ap₂ (λ (i : ℕ) (o : Open). port (line [] i 0 o) b') (add-zero at) e.2
+      ∙ ap₂ (λ (i : ℕ) (o : Option ℕ). port (line [] i 0 o) b') (add-zero at) e.2
       ∙ ap (port (line [] at 0 left)) e.3
 
   -- it waits
   pub meets_stay : waits s ≡ true → (i : ℕ) (t : List ℕ) → drop i t ≡ s → piece (port (line [] at 0 later) b') (drop i t) ≡ piece (port (line [] at 0 left) b) s
   meets_stay w i t e =
       let f = m.waiting w in
-      ap₂ (λ (o : Open) (x : Board). piece (port (line [] at 0 o) x) (drop i t)) f.2 f.3 ∙ ap (piece (port (line [] at 0 left) b)) e
+      ap₂ (λ (o : Option ℕ) (x : Board). piece (port (line [] at 0 o) x) (drop i t)) f.2 f.3 ∙ ap (piece (port (line [] at 0 left) b)) e
 
   module _ (l : at + 13 ≤ limit) where
     -- it is refused, or run

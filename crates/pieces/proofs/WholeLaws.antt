@@ -3,7 +3,7 @@ use Rattle.std.specs.Prelude.{◌≡◌, refl, Bool, true, false, List, [], ◌�
 use Rattle.std.proofs.Common.{sym, ap, ◌∙◌, true≢false, append_assoc, append-nil, arith, length-append, ltb-true, ltb-false}
 use Rattle.vram.specs.Board.{Board}
 use Rattle.vram.specs.Step.{rows_of}
-use Rattle.list.specs.declared.Open.{Open}
+use Rattle.std.specs.Prelude.{Option}
 use Rattle.list.specs.Tags.{len_of}
 use Rattle.list.specs.Fields.{Field, tag, whole, field_of}
 use Rattle.list.proofs.FieldLaws.{tag_append}
@@ -13,7 +13,7 @@ use Rattle.list.proofs.WaitsLaws.{waits_nil, waits_not, settled_long, settled_wh
 use Rattle.pieces.specs.Line.{line, refused, Port, port, limit, number_on, met, come, piece}
 use Rattle.pieces.proofs.LineLaws.{met_refused, come_waits, come_settled, feed_in, feed_over, refused_stays}
 
-module _ (at : ℕ) (left : Open) (b : Board) where
+module _ (at : ℕ) (left : Option ℕ) (b : Board) where
   -- ---- a whole field: after some waiting bytes of it, the rest
 
   module _ (f : Field) (n : ℕ) (l : at + n ≤ limit) where

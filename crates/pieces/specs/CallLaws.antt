@@ -6,7 +6,7 @@ use Rattle.numbers.specs.Refuse.{refuse}
 use Rattle.numbers.specs.RefuseLaws.{refuse_zero, leaves_made, leaves_before}
 use Rattle.vram.specs.Board.{Board}
 use Rattle.vram.specs.Step.{given_of}
-use Rattle.list.specs.declared.Bad.{Bad}
+use Rattle.list.specs.Meaning.{Bad}
 use Rattle.list.specs.Meaning.{bad}
 use Rattle.pieces.specs.declared.Pieces.{Pieces}
 use Rattle.pieces.specs.Line.{Line, fresh, port, piece, so_far, at_last}

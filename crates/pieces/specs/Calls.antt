@@ -1,14 +1,25 @@
 -- What each call answers and leaves, for every input. Assumes nothing.
 use Rattle.std.specs.Prelude.{ℕ, List}
 use Rattle.numbers.specs.Refuse.{refuse, leaves}
+use Rattle.vram.specs.declared.Vram.{Vram}
 use Rattle.vram.specs.Board.{Board, board}
 use Rattle.vram.specs.Step.{given_of}
-use Rattle.list.specs.declared.Bad.{Bad}
-use Rattle.list.specs.Meaning.{bad}
+use Rattle.list.specs.Meaning.{Bad}
+use Rattle.list.specs.Meaning.{bad, bad_of}
 use Rattle.pieces.specs.declared.Pieces.{Pieces}
-use Rattle.pieces.specs.declared.Taken.{Taken}
+use Rattle.pieces.specs.declared.Taken.{Taken as Gave}
 use Rattle.pieces.specs.Line.{fresh, Port, port, piece, so_far, at_last}
 use Rattle.pieces.specs.Pieces.{pack, unpack, sound}
+
+-- the state after a piece or the last call, where the list stands, the number given back, and the offset of the field that it is about
+pub record Taken : Type 0 where
+  pub state : Vram
+  pub pieces : Pieces
+  pub number : ℕ
+  pub place : ℕ
+
+abbrev pub taken_of : Gave → Taken
+taken_of r = record { state = r.state; pieces = r.pieces; number = (bad_of r.answer).number; place = (bad_of r.answer).place }
 
 -- number and place, what is kept of the list, and the board afterwards
 pub record Outcome : Type 0 where

@@ -1,7 +1,7 @@
 -- A list that is cut into pieces: each call is lent what the one before it has left, and no other call comes between. Assumes nothing.
 use Rattle.std.specs.Prelude.{List, [], ◌∷◌, ℕ}
 use Rattle.vram.specs.Board.{Board}
-use Rattle.list.specs.declared.Bad.{Bad}
+use Rattle.list.specs.Meaning.{Bad}
 use Rattle.pieces.specs.declared.Pieces.{Pieces}
 use Rattle.pieces.specs.Line.{fresh}
 use Rattle.pieces.specs.Pieces.{pack}

@@ -7,8 +7,8 @@ use Rattle.std.proofs.Math.ListN.{length}
 use Rattle.vram.specs.Board.{Board, effect}
 use Rattle.vram.specs.High.{Twins}
 use Rattle.vram.proofs.HighLaws.{agree_length, effect_twins, step_twins}
-use Rattle.list.specs.declared.Bad.{Bad}
-use Rattle.list.specs.declared.Open.{Open}
+use Rattle.list.specs.Meaning.{Bad}
+use Rattle.std.specs.Prelude.{Option}
 use Rattle.list.specs.Fields.{Field, Reads, Unreadable, field_of, size_of}
 use Rattle.list.specs.Open.{open_by}
 use Rattle.list.specs.Meaning.{bad}
@@ -35,7 +35,7 @@ module _ {a b : Board} (t : Twins a b) where
   draws_twins (Reads c n) = step_twins effect effect_twins c a b t
   draws_twins Unreadable = t
 
-  met_ports : (at : ℕ) (f : Field) (left : Open) → TwinPorts (met at f left a) (met at f left b)
+  met_ports : (at : ℕ) (f : Field) (left : Option ℕ) → TwinPorts (met at f left a) (met at f left b)
   unfolding met
   met_ports at f left = rw (number_on_alike f) (go (eqb (number_on f b) 0))
     where
@@ -46,7 +46,7 @@ module _ {a b : Board} (t : Twins a b) where
       go true = record { line = refl; on = draws_twins f }
       go false = record { line = refl; on = t }
 
-  come_ports : (at : ℕ) (s : List ℕ) (left : Open) → TwinPorts (come at s left a) (come at s left b)
+  come_ports : (at : ℕ) (s : List ℕ) (left : Option ℕ) → TwinPorts (come at s left a) (come at s left b)
   unfolding come
   come_ports at s left = go (waits s)
     where

@@ -4,9 +4,9 @@ use Rattle.std.proofs.Common.{List, [], ◌∷◌, ◌++◌}
 use mathlib.Core.List.{foldl}
 use Rattle.vram.specs.Board.{Board}
 use Rattle.vram.specs.Step.{rows_of, step}
-use Rattle.list.specs.declared.Bad.{Bad}
-use Rattle.list.specs.declared.Open.{Open}
-use Rattle.list.specs.declared.Open.TheVariants.{None}
+use Rattle.list.specs.Meaning.{Bad}
+use Rattle.std.specs.Prelude.{Option}
+use Rattle.std.specs.Prelude.Option.{None}
 use Rattle.list.specs.Fields.{Field, Reads, Unreadable, field_of, size_of}
 use Rattle.list.specs.Open.{open_by}
 use Rattle.list.specs.Meaning.{number_of, bad, left_behind, first_bad}
@@ -18,9 +18,9 @@ pub record Line : Type 0 where
   pub held : List ℕ
   pub start : ℕ
   pub number : ℕ
-  pub left : Open
+  pub left : Option ℕ
 
-abbrev pub line : List ℕ → ℕ → ℕ → Open → Line
+abbrev pub line : List ℕ → ℕ → ℕ → Option ℕ → Line
 line held start number left = record { held = held; start = start; number = number; left = left }
 
 -- before a list's first byte
@@ -54,7 +54,7 @@ draws (Reads c n) b = step c b
 draws Unreadable b = b
 
 -- at an offset: it is run, and the next field begins; or it is refused, and those before it stay drawn
-unfoldable pub met : ℕ → Field → Open → Board → Port
+unfoldable pub met : ℕ → Field → Option ℕ → Board → Port
 met at f left b =
     cond (eqb (number_on f b) 0)
     (port (line [] (at + size_of f) 0 (open_by at f left)) (draws f b))
@@ -63,7 +63,7 @@ met at f left b =
 -- ---- a byte
 
 -- the bytes of one field: held while more may make a field of them
-unfoldable pub come : ℕ → List ℕ → Open → Board → Port
+unfoldable pub come : ℕ → List ℕ → Option ℕ → Board → Port
 come at s left b = cond (waits s) (port (line s at 0 left) b) (met at (field_of s) left b)
 
 -- a byte more: nothing after a refusal; 4 past the limit, at its field's offset

@@ -1,14 +1,14 @@
 -- What fields come to that are judged as they run: those before the refused one stay drawn. Assumes nothing.
 use Rattle.std.specs.Prelude.{ℕ, ◌+◌, Bool, cond, List, [], ◌∷◌, eqb}
 use Rattle.vram.specs.Board.{Board}
-use Rattle.list.specs.declared.Open.{Open}
+use Rattle.std.specs.Prelude.{Option}
 use Rattle.list.specs.Fields.{Field, size_of}
 use Rattle.list.specs.Open.{open_by}
 use Rattle.list.specs.Meaning.{number_of, made_by, bad, left_behind, Outcome, gives}
 use Rattle.pieces.specs.Line.{Port, number_on, draws, at_last}
 
 -- one after the other, the first at an offset, with a mask load open or none; at their end what is left behind
-unfoldable pub meant : ℕ → List Field → Open → Board → Outcome
+unfoldable pub meant : ℕ → List Field → Option ℕ → Board → Outcome
 meant at [] left b = gives (left_behind left) b
 meant at (f ∷ fs) left b =
     cond (eqb (number_on f b) 0)

@@ -1,14 +1,15 @@
 -- Laws of the line as the code holds it, and of its rule. Assumes nothing.
-use Rattle.std.specs.Prelude.{◌≡◌, refl, Bool, ◌&&◌, ◌||◌, List, [], ◌∷◌, ◌++◌, ◌≢◌, ℕ, zero, suc, ◌+◌, ◌-◌, ◌≤◌, ◌<◌, get_or, take, drop, set}
+use Rattle.std.specs.Prelude.{◌≡◌, refl, Bool, ◌&&◌, ◌||◌, List, [], ◌∷◌, ◌++◌, ◌≢◌, ℕ, zero, suc, ◌+◌, ◌-◌, ◌≤◌, ◌<◌, get_or, take, drop, set, MatchBool, HoldsAt}
+use Rattle.std.specs.List.{AllWithin}
 use Rattle.std.proofs.Math.Path.{sym}
-use Rattle.std.proofs.Common.{ap, ◌∙◌, arith, add-one, drop_of_length-le, drop-cons, eqb-true, eq-eqb, ne_eqb, leb-true, leb-false, le-leb}
+use Rattle.std.proofs.Common.{ap, ◌∙◌, arith, true≢false, add-one, drop_of_length-le, drop-cons, eqb-true, eq-eqb, ne_eqb, leb-true, leb-false, le-leb}
 use Rattle.std.proofs.Math.Bool.{true, false}
 use Rattle.std.proofs.Math.Dec.{eqb, leb}
 use Rattle.std.proofs.Math.ListN.{length, length-take}
 use borrow.Author.Tests.{eqb-false, lt-leb}
 use Rattle.numbers.specs.Between.{both}
 use Rattle.refusals.specs.Refusal.{refusing}
-use Rattle.list.specs.declared.Open.{Open}
+use Rattle.std.specs.Prelude.{Option}
 use Rattle.list.specs.Waits.{waits}
 use Rattle.list.proofs.WaitsLaws.{waits_few}
 use Rattle.pieces.specs.declared.Pieces.{Pieces}
@@ -66,6 +67,26 @@ module _ (s : List ℕ) (i : ℕ) (h : i < length s) where
   unfolding all_zero
   zero_bad e = rw (drop-cons s i 0 h, ne_eqb (get_or s i 0) 0 e)
 
+-- the whole search
+zeros_all : (s : List ℕ) → AllWithin (λ x. x ≡ 0) s 0 (length s) → all_zero s ≡ true
+unfolding all_zero
+zeros_all [] h = refl
+zeros_all (x ∷ s) h = rw (eq-eqb x 0 (h 0 0 (omega arith) (omega arith))) (zeros_all s (λ k d l u. h (suc k) d (omega arith) (omega arith)))
+
+zeros_not : (s : List ℕ) (k : ℕ) → k < length s → HoldsAt (λ x. x ≢ 0) s k → all_zero s ≡ false
+unfolding all_zero
+zeros_not [] k l n = absurd (omega arith)
+zeros_not (x ∷ s) zero l n = rw (ne_eqb x 0 (n 0))
+zeros_not (x ∷ s) (suc k) l n = ap (λ (t : Bool). eqb x 0 && t) (zeros_not s k (omega arith) n) ∙ no (eqb x 0)
+  where
+    no : (t : Bool) → (t && false) ≡ false
+    no true = refl
+    no false = refl
+
+pub zeros_told : (s : List ℕ) (r : Bool) → MatchBool r (AllWithin (λ x. x ≡ 0) s 0 (length s)) ((k : ℕ) × (k < length s) × HoldsAt (λ x. x ≢ 0) s k) → r ≡ all_zero s
+zeros_told s true h = sym (zeros_all s h)
+zeros_told s false (k, l, n) = sym (zeros_not s k l n)
+
 -- ---- a line that meets the rule, by what it says
 
 pub record Going (l : Line) : Type 0 where
@@ -105,8 +126,16 @@ module _ (l : Line) where
     unfolding possible stopped
     stopped_possible g = rw (ne_eqb l.number 0 n, g.named, eq-eqb (length l.held) 0 g.empty, g.closed)
 
+-- a number that no field gets is 0
+pub unnamed_none : (l : Line) → possible l ≡ true → (eqb l.number 4 || refusing l.number) ≡ false → l.number ≡ 0
+unnamed_none l h e = go (eqb l.number 0) refl
+  where
+    go : (t : Bool) → eqb l.number 0 ≡ t → l.number ≡ 0
+    go true q = eqb-true _ _ q
+    go false q = absurd (true≢false (sym (possible_stopped l (eqb-false _ _ q) h).named ∙ e))
+
 -- more than twelve bytes are not held: n of thirteen
-pub going_over : (h : List ℕ) (n start : ℕ) (left : Open) → length h ≡ 13 → 12 < n → going (line (take n h) start 0 left) ≡ false
+pub going_over : (h : List ℕ) (n start : ℕ) (left : Option ℕ) → length h ≡ 13 → 12 < n → going (line (take n h) start 0 left) ≡ false
 unfolding going
 going_over h n start left l m = go (waits (take n h)) refl
   where
@@ -114,7 +143,7 @@ going_over h n start left l m = go (waits (take n h)) refl
     go true e = absurd (omega (arith, waits_few (take n h) e, length-take n h))
     go false e = refl
 
-pub going_is : (h : List ℕ) (n start : ℕ) (left : Open) → length h ≡ 13 → n ≤ 12 → start ≤ limit
+pub going_is : (h : List ℕ) (n start : ℕ) (left : Option ℕ) → length h ≡ 13 → n ≤ 12 → start ≤ limit
     → going (line (take n h) start 0 left) ≡ ((waits (take n h) && leb n (limit - start)) && before left start)
 unfolding going
 going_is h n start left l m f = ap (λ (t : Bool). (waits (take n h) && t) && before left start) (same_fits (leb n (limit - start)) refl)

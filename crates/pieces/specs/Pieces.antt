@@ -1,8 +1,8 @@
 -- The line as the code holds it, and the rule of a line: every line that pieces make meets it (`reached_sound`). Assumes nothing.
 use Rattle.std.specs.Prelude.{ℕ, zero, suc, ◌+◌, Bool, true, false, ◌&&◌, ◌||◌, cond, List, [], ◌∷◌, eqb, leb, ltb, length, take, drop}
 use Rattle.refusals.specs.Refusal.{refusing}
-use Rattle.list.specs.declared.Open.{Open}
-use Rattle.list.specs.declared.Open.TheVariants.{None, At}
+use Rattle.std.specs.Prelude.{Option}
+use Rattle.std.specs.Prelude.Option.{None, Some}
 use Rattle.list.specs.Waits.{waits}
 use Rattle.pieces.specs.declared.Pieces.{Pieces}
 use Rattle.pieces.specs.Line.{Line, line, limit}
@@ -14,7 +14,7 @@ pad zero s = []
 pad (suc k) [] = 0 ∷ pad k []
 pad (suc k) (x ∷ s) = x ∷ pad k s
 
-abbrev pub packed : List ℕ → ℕ → ℕ → Open → Pieces
+abbrev pub packed : List ℕ → ℕ → ℕ → Option ℕ → Pieces
 packed s at number left = record { held = pad 13 s; count = length s; start = at; number = number; left = left }
 
 abbrev pub pack : Line → Pieces
@@ -30,13 +30,13 @@ all_zero [] = true
 all_zero (x ∷ s) = eqb x 0 && all_zero s
 
 -- the open mask load stands before the unfinished field
-abbrev pub before : Open → ℕ → Bool
+abbrev pub before : Option ℕ → ℕ → Bool
 before None start = true
-before (At place) start = ltb place start
+before (Some place) start = ltb place start
 
-abbrev pub is_none : Open → Bool
+abbrev pub is_none : Option ℕ → Bool
 is_none None = true
-is_none (At place) = false
+is_none (Some place) = false
 
 -- no field is refused: bytes that more may make a field of, within the limit
 unfoldable pub going : Line → Bool

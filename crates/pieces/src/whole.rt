@@ -5,38 +5,25 @@ ghost use Rattle.vram.specs.Step.{given_of};
 ghost use Rattle.pieces.specs.Line.{line, port, piece};
 ghost use Rattle.pieces.specs.Pieces.{pack, unpack, packed, possible};
 ghost use Rattle.pieces.specs.PackLaws.{Sound};
-ghost use Rattle.pieces.specs.Turns.{standing, Along};
+ghost use Rattle.pieces.specs.Turns.{Along};
 
 use crate::bytes::{Moved, feed};
 use crate::field::{meet, standing};
 use crate::{Pieces, SAFE};
-use list::Open;
 use vram::Vram;
 
 // Where the list stands, the state, and how many bytes are used up.
-#[derive(Clone, Copy)]
+#[derive(Clone, Copy, Debug, PartialEq, Eq)]
 struct Went {
     pieces: Pieces,
     state: Vram,
     used: usize,
 }
 
-// With nothing held.
-fn reached(number: u32, at: u32, left: Open, state: Vram, used: usize) -> Went
-    ensures { (result.pieces ≡ pack (standing number at left)) × (result.state ≡ state) × (result.used ≡ used) }
-{
-    let pieces = standing(number, at, left);
-    Went {
-        pieces,
-        state,
-        used,
-    }
-}
-
 // With nothing held: field after field, up to one that waits or is refused. Near the limit bytes are counted one by one.
 fn whole_fields(
     start: u32,
-    left: Open,
+    left: Option<u64>,
     state: Vram,
     memory: &mut [u16],
     serial: &mut [u16],
@@ -45,25 +32,30 @@ fn whole_fields(
     requires { (possible (line [] start 0 left) ≡ true) × (given_of (board state memory.old serial.old) ≡ 0) }
     ensures { Along (packed [] start 0 left) (board state memory.old serial.old) bytes.now result.pieces (board result.state memory.new serial.new) result.used }
 {
+    // A field's size comes from its bytes; how many are used up is what `Along` speaks of.
     let mut used: usize = 0;
     let mut at = start;
     let mut opened = left;
-    let mut current = state;
-    loop {
+    let mut state = state;
+    let answer = loop {
         if SAFE < at {
-            return reached(numbers::DONE, at, opened, current, used);
+            break Ok(());
         }
-        let f = meet(at, opened, current, memory, serial, &bytes[used..]);
-        current = f.state;
-        opened = f.left;
-        if f.waits {
-            return reached(numbers::DONE, at, opened, current, used);
+        match meet(at, opened, state, memory, serial, &bytes[used..]) {
+            Ok(None) => break Ok(()),
+            Ok(Some(met)) => {
+                state = met.state;
+                opened = met.left;
+                at += met.size as u32;
+                used += met.size;
+            }
+            Err(refusal) => break Err(refusal),
         }
-        at = at + (f.size as u32);
-        used = used + f.size;
-        if f.number != numbers::DONE {
-            return reached(f.number, at, opened, current, used);
-        }
+    };
+    Went {
+        pieces: standing(answer, at, opened),
+        state,
+        used,
     }
 }
 
@@ -72,9 +64,8 @@ fn at_once(p: Pieces, state: Vram, memory: &mut [u16], serial: &mut [u16], rest:
     requires { Sound p × (given_of (board state memory.old serial.old) ≡ 0) }
     ensures { Along p (board state memory.old serial.old) rest.now result.pieces (board result.state memory.new serial.new) result.used }
 {
-    let left = p.left;
-    if (p.number == numbers::DONE) & (p.count == 0) {
-        return whole_fields(p.start, left, state, memory, serial, rest);
+    if (p.number == 0) & (p.count == 0) {
+        return whole_fields(p.start, p.left, state, memory, serial, rest);
     }
     Went {
         pieces: p,
@@ -88,32 +79,21 @@ fn advance(p: Pieces, state: Vram, memory: &mut [u16], serial: &mut [u16], rest:
     requires { Sound p × (given_of (board state memory.old serial.old) ≡ 0) × (0 < length rest.now) }
     ensures { Along p (board state memory.old serial.old) rest.now result.pieces (board result.state memory.new serial.new) result.used × (0 < result.used) }
 {
-    let f = at_once(p, state, memory, serial, rest);
-    let q = f.pieces;
-    let current = f.state;
-    let used = f.used;
-    if q.number != numbers::DONE {
+    let went = at_once(p, state, memory, serial, rest);
+    if went.pieces.number != 0 {
         return Went {
-            pieces: q,
-            state: current,
             used: rest.len(),
+            ..went
         };
     }
-    if rest.len() <= used {
-        return Went {
-            pieces: q,
-            state: current,
-            used,
-        };
+    if rest.len() <= went.used {
+        return went;
     }
-    let x = rest[used];
-    let m = feed(q, current, memory, serial, x);
-    let pieces = m.pieces;
-    let state = m.state;
+    let moved = feed(went.pieces, went.state, memory, serial, rest[went.used]);
     Went {
-        pieces,
-        state,
-        used: used + 1,
+        pieces: moved.pieces,
+        state: moved.state,
+        used: went.used + 1,
     }
 }
 
@@ -128,19 +108,15 @@ pub(crate) fn take_all(
     requires { Sound p × (given_of (board state memory.old serial.old) ≡ 0) }
     ensures { (result.pieces ≡ pack (piece (port (unpack p) (board state memory.old serial.old)) bytes.now).line) × (board result.state memory.new serial.new ≡ (piece (port (unpack p) (board state memory.old serial.old)) bytes.now).on) }
 {
-    let mut used: usize = 0;
+    // Each turn says how many bytes it has used up.
+    let mut rest = bytes;
     let mut pieces = p;
-    let mut current = state;
-    while used < bytes.len() {
-        let f = advance(pieces, current, memory, serial, &bytes[used..]);
-        let q = f.pieces;
-        let s = f.state;
-        pieces = q;
-        current = s;
-        used = used + f.used;
+    let mut state = state;
+    while !rest.is_empty() {
+        let went = advance(pieces, state, memory, serial, rest);
+        pieces = went.pieces;
+        state = went.state;
+        rest = &rest[went.used..];
     }
-    Moved {
-        pieces,
-        state: current,
-    }
+    Moved { pieces, state }
 }

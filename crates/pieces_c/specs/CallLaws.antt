@@ -6,14 +6,14 @@ use Rattle.std.proofs.lemmas.Bool.{eqb-false}
 use Rattle.numbers.specs.Between.{both}
 use Rattle.vram.specs.declared.Vram.{Vram}
 use Rattle.vram.specs.Board.{board}
-use Rattle.list.specs.declared.Open.{Open}
-use Rattle.list.specs.declared.Open.TheVariants.{None, At}
+use Rattle.std.specs.Prelude.{Option}
+use Rattle.std.specs.Prelude.Option.{None, Some}
 use Rattle.list.specs.Meaning.{bad}
 use Rattle.registers.specs.declared.Registers.{Registers}
 use Rattle.registers.specs.State.{lawful, taken, handed}
 use Rattle.registers.specs.StateLaws.{handed_taken, taken_handed, handed_lawful}
 use Rattle.pieces.specs.declared.Pieces.{Pieces as Below}
-use Rattle.pieces.specs.declared.Taken.{Taken as BelowTaken}
+use Rattle.pieces.specs.Calls.{Taken as BelowTaken}
 use Rattle.pieces.specs.Calls.{Outcome, gives, outcome, first_number, take_call as below_take, end_call as below_end}
 use Rattle.pieces.proofs.Refused.{first_nothing}
 use Rattle.pieces_c.specs.declared.Pieces.{Pieces}
@@ -28,7 +28,7 @@ module _ (p : Pieces) where
   unfolding taken_line
   taken_none z = rw (eq-eqb p.«open» 0 z)
 
-  pub taken_at : p.«open» ≢ 0 → record { held = p.held; count = p.count; start = p.start; number = p.number; left = At p.left } ≡ taken_line p
+  pub taken_at : p.«open» ≢ 0 → record { held = p.held; count = p.count; start = p.start; number = p.number; left = Some p.left } ≡ taken_line p
   unfolding taken_line
   taken_at n = rw (ne_eqb p.«open» 0 n)
 
@@ -42,7 +42,7 @@ line_handed_taken p h = go (eqb p.«open» 0) refl (eqb p.«open» 1) refl
     with : ℕ → ℕ → Pieces
     with n left = record { left = left; start = p.start; number = p.number; held = p.held; count = p.count; «open» = n }
 
-    go : (t : Bool) → eqb p.«open» 0 ≡ t → (u : Bool) → eqb p.«open» 1 ≡ u → handed_by (cond t None (At p.left)) (taken_line p) ≡ p
+    go : (t : Bool) → eqb p.«open» 0 ≡ t → (u : Bool) → eqb p.«open» 1 ≡ u → handed_by (cond t None (Some p.left)) (taken_line p) ≡ p
     go true q true r = absurd (omega (arith, eqb-true p.«open» 0 q, eqb-true p.«open» 1 r))
     go true q false r =
         let e : eqb p.left 0 ≡ true = rw r at a.1 in
@@ -60,17 +60,17 @@ pub line_taken_handed : (p : Below) → taken_line (handed_line p) ≡ p
 unfolding taken_line handed_line
 line_taken_handed p = go p.left
   where
-    go : (left : Open) → taken_line (handed_by left p) ≡ record { held = p.held; count = p.count; start = p.start; number = p.number; left = left }
+    go : (left : Option ℕ) → taken_line (handed_by left p) ≡ record { held = p.held; count = p.count; start = p.start; number = p.number; left = left }
     go None = refl
-    go (At place) = refl
+    go (Some place) = refl
 
 pub line_handed_lawful : (p : Below) → line_lawful (handed_line p) ≡ true
 unfolding line_lawful handed_line
 line_handed_lawful p = go p.left
   where
-    go : (left : Open) → line_lawful (handed_by left p) ≡ true
+    go : (left : Option ℕ) → line_lawful (handed_by left p) ≡ true
     go None = refl
-    go (At place) = refl
+    go (Some place) = refl
 
 -- ---- a call that takes both from C
 

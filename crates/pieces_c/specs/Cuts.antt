@@ -5,7 +5,7 @@ use Rattle.std.proofs.Common.{sym, ap, ◌∙◌, arith, List, [], ◌∷◌}
 use mathlib.Core.List.{flatten}
 use Rattle.vram.specs.declared.Vram.{Vram}
 use Rattle.vram.specs.Board.{board, effect}
-use Rattle.list.specs.declared.Bad.{Bad}
+use Rattle.list.specs.Meaning.{Bad}
 use Rattle.list.specs.Meaning.{bad, verdict_of, run_call}
 use Rattle.list.proofs.CallLaws.{call_given}
 use Rattle.registers.specs.declared.Registers.{Registers}

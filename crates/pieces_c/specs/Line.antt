@@ -1,14 +1,14 @@
 -- Where a list stands as C has it, and as `pieces` has it; the answer of a call. Assumes nothing.
 use Rattle.std.specs.Prelude.{ℕ, Bool, ◌&&◌, ◌||◌, cond, eqb, leb}
 use Rattle.vram.specs.declared.Vram.{Vram}
-use Rattle.list.specs.declared.Bad.{Bad}
-use Rattle.list.specs.declared.Open.{Open}
-use Rattle.list.specs.declared.Open.TheVariants.{None, At}
+use Rattle.list.specs.Meaning.{Bad}
+use Rattle.std.specs.Prelude.{Option}
+use Rattle.std.specs.Prelude.Option.{None, Some}
 use Rattle.list.specs.Meaning.{bad}
 use Rattle.registers.specs.declared.Registers.{Registers}
 use Rattle.registers.specs.State.{handed}
 use Rattle.pieces.specs.declared.Pieces.{Pieces as Below}
-use Rattle.pieces.specs.declared.Taken.{Taken as BelowTaken}
+use Rattle.pieces.specs.Calls.{Taken as BelowTaken}
 use Rattle.pieces_c.specs.declared.Pieces.{Pieces}
 use Rattle.pieces_c.specs.declared.Taken.{Taken}
 
@@ -18,15 +18,15 @@ line_lawful p = leb p.«open» 1 && (eqb p.«open» 1 || eqb p.left 0)
 
 unfoldable pub taken_line : Pieces → Below
 taken_line p =
-    record { held = p.held; count = p.count; start = p.start; number = p.number; left = cond (eqb p.«open» 0) None (At p.left) }
+    record { held = p.held; count = p.count; start = p.start; number = p.number; left = cond (eqb p.«open» 0) None (Some p.left) }
 
 -- with its open mask load: 0 none, 1 one
 abbrev handed_with : Below → ℕ → ℕ → Pieces
 handed_with p is_open left = record { left = left; start = p.start; number = p.number; held = p.held; count = p.count; «open» = is_open }
 
-abbrev pub handed_by : Open → Below → Pieces
+abbrev pub handed_by : Option ℕ → Below → Pieces
 handed_by None p = handed_with p 0 0
-handed_by (At place) p = handed_with p 1 place
+handed_by (Some place) p = handed_with p 1 place
 
 unfoldable pub handed_line : Below → Pieces
 handed_line p = handed_by p.left p

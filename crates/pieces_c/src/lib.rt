@@ -10,12 +10,12 @@ ghost use Rattle.pieces_c.specs.Calls.{answered, take_call, end_call};
 
 mod line;
 
-use line::{both_lawful, excluded, hand_line, hand_taken, take_line};
-use registers::{Registers, take};
+use line::{excluded, take_both};
+use registers::Registers;
 
 // Where a list stands between two pieces. open: 0 no mask load is open, 1 one is, at the offset left.
 #[repr(C)]
-#[derive(Clone, Copy)]
+#[derive(Clone, Copy, Debug, PartialEq, Eq)]
 pub struct Pieces {
     pub left: u64,
     pub start: u32,
@@ -27,7 +27,7 @@ pub struct Pieces {
 
 // The state after a piece or the last call, where the list stands, the number given back, and the offset of the field that it is about.
 #[repr(C)]
-#[derive(Clone, Copy)]
+#[derive(Clone, Copy, Debug, PartialEq, Eq)]
 pub struct Taken {
     pub state: Registers,
     pub pieces: Pieces,
@@ -39,8 +39,7 @@ pub struct Taken {
 pub fn linkshoar_pieces_fresh() -> Pieces
     ensures { result ≡ handed_line (pack fresh) }
 {
-    let line = pieces::fresh();
-    hand_line(line)
+    Pieces::from(pieces::fresh())
 }
 
 // A piece of a list, also one of no bytes.
@@ -53,20 +52,18 @@ pub fn linkshoar_pieces_take(
 ) -> Taken
     ensures { answered result memory.new serial.new ≡ take_call state line memory.old serial.old piece.now }
 {
-    if both_lawful(state, line) {
-        let taken = pieces::take(take(state), take_line(line), memory, serial, piece);
-        return hand_taken(taken);
+    match take_both(state, line) {
+        Ok((vram, list)) => Taken::from(pieces::take(vram, list, memory, serial, piece)),
+        Err(refusal) => excluded(state, line, refusal),
     }
-    excluded(state, line)
 }
 
 // The list is over.
 pub fn linkshoar_pieces_end(state: Registers, line: Pieces, memory: &[u16], serial: &[u16]) -> Taken
     ensures { answered result memory.now serial.now ≡ end_call state line memory.now serial.now }
 {
-    if both_lawful(state, line) {
-        let taken = pieces::end(take(state), take_line(line), memory, serial);
-        return hand_taken(taken);
+    match take_both(state, line) {
+        Ok((vram, list)) => Taken::from(pieces::end(vram, list, memory, serial)),
+        Err(refusal) => excluded(state, line, refusal),
     }
-    excluded(state, line)
 }

@@ -69,7 +69,7 @@ abbrev pub filled : ℕ → ℕ → ℕ → Filled
 filled n bytes cycles = record { number = n; bytes = bytes; cycles = cycles }
 
 module _ (bytes : List ℕ) (cycles : ℕ) (out : List ℕ) where
-  refuses : (n : ℕ) → n ≢ 0 → outcome (filled n 0 0) out ≡ fill_answer n bytes cycles out
+  pub refuses : (n : ℕ) → n ≢ 0 → outcome (filled n 0 0) out ≡ fill_answer n bytes cycles out
   refuses n h = sym (rw (leaves_before n 0 (length bytes) h, leaves_before n 0 cycles h, leaves_before n out (over bytes out) h))
 
   pub stored_short : length out < length bytes → outcome (filled 15 0 0) out ≡ stored bytes cycles out

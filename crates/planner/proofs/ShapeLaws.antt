@@ -5,19 +5,21 @@ use Rattle.std.proofs.Common.{ap, ◌∙◌, subst, arith, mul-le-mul, [], eqb-t
 use Rattle.std.proofs.Math.Bool.{true, false}
 use Rattle.std.proofs.Math.Dec.{eqb, leb}
 use Rattle.std.proofs.Math.ListN.{length, length-map}
+use Rattle.std.specs.Prelude.{List}
 use borrow.Author.Tests.{eqb-false, lt-leb}
-use Rattle.numbers.specs.RefuseLaws.{leaves_made}
+use Rattle.numbers.specs.RefuseLaws.{refuse_zero, leaves_made}
 use Rattle.list.specs.Encode.{encode_all}
 use Rattle.list.proofs.EncodedLaws.{encode_none}
-use Rattle.planner.specs.declared.Shape.{Shape}
-use Rattle.planner.specs.declared.Shape.TheVariants.{Refused, Nothing, Words, Blocks}
 use Rattle.planner.specs.Fill.{Fill, fill, inside, touched, covered_words, touched_blocks, W, B, word_write, block_write, plan}
 use Rattle.planner.proofs.FillLaws.{Sound, across, words_closed, blocks_closed, plan_words, plan_blocks}
-use Rattle.planner.specs.Bytes.{columns_in}
+use lib.Seq.{sets}
+use Rattle.planner.specs.declared.Filled.{Filled}
+use Rattle.planner.specs.Bytes.{word_rows, columns_in}
 use Rattle.planner.proofs.PlanLaws.{words_bytes, blocks_bytes, word_bytes_length, block_bytes_length}
-use Rattle.planner.specs.Calls.{asked_refusal, list_of, measure_call}
-use Rattle.planner.proofs.CallLaws.{asked_sound, plan_empty, some_mask, some_columns}
-use Rattle.planner.specs.Shapes.{nothing, shape_of, shape_answer}
+use Rattle.numbers.specs.Refuse.{refuse}
+use Rattle.planner.specs.Calls.{asked_refusal, list_of, outcome, fill_answer, fill_call, measure_call}
+use Rattle.planner.proofs.CallLaws.{filled, refuses, stored_done, asked_sound, fill_stores, plan_empty, some_mask, some_columns, block_bytes}
+use Rattle.planner.specs.Shapes.{Shape, Refused, Nothing, Words, Blocks, nothing, shape_of, shape_size, shape_answer}
 
 -- ---- what each shape says of its fill
 
@@ -38,6 +40,10 @@ module _ (f : Fill) where
       go true false true p q r = (eqb-true _ _ p, q, refl, leb-true _ _ r)
       go true false false p q r = (eqb-true _ _ p, q, refl, leb-false _ _ r)
       go false u v p q r = (refl, eqb-false _ _ p)
+
+  -- of the shape that the code has
+  pub shape_known : (s : Shape) → s ≡ shape_of f → Says f s
+  shape_known s e = subst (Says f) (sym e) shape_says
 
   -- and back
   pub shape_refused : (n : ℕ) → n ≡ asked_refusal f → n ≢ 0 → Refused n ≡ shape_of f
@@ -85,31 +91,33 @@ module _ (f : Fill) where
         let e = plan_empty f [] s.0 s.1 in
         answers 0 0 s.0 (ap length (ap encode_all e ∙ encode_none)) (ap length e)
 
+    pub words_list : Says f (Words n) → list_of f ≡ word_rows f.first_column (f.end_column - f.first_column) f.colour f.mask f.first_row (f.end_row - f.first_row)
+    words_list s = ap encode_all (plan_words f (some_mask f [] s.0 s.1) s.3) ∙ words_bytes f (asked_sound f s.0)
+
     pub answer_words : Says f (Words n) → shape_answer (Words n) ≡ measure_call f
     unfolding shape_answer
     answer_words s =
-        let o = asked_sound f s.0 in
-        let x = plan_words f (some_mask f [] s.0 s.1) s.3 in
-        let w = words_closed f o in
+        let w = words_closed f (asked_sound f s.0) in
         let l = word_bytes_length f.first_column (f.end_column - f.first_column) f.colour f.mask f.first_row (f.end_row - f.first_row) in
         answers (13 * n) n s.0
-        (ap length (ap encode_all x ∙ words_bytes f o) ∙ omega (arith, l, w, s.2))
-        (ap length x ∙ length-map (covered_words f) (word_write f) ∙ sym s.2)
+        (ap length (words_list s) ∙ omega (arith, l, w, s.2))
+        (ap length (plan_words f (some_mask f [] s.0 s.1) s.3) ∙ length-map (covered_words f) (word_write f) ∙ sym s.2)
+
+    pub blocks_list : (s : Says f (Blocks n)) → list_of f ≡ block_bytes f [] s.0 s.1 (across f)
+    blocks_list s =
+        ap encode_all (plan_blocks f (some_mask f [] s.0 s.1) s.3) ∙ blocks_bytes f (asked_sound f s.0) (some_columns f [] s.0 s.1)
 
     pub answer_blocks : Says f (Blocks n) → shape_answer (Blocks n) ≡ measure_call f
     unfolding shape_answer
     answer_blocks s =
-        let o = asked_sound f s.0 in
-        let c = some_columns f [] s.0 s.1 in
-        let x = plan_blocks f (some_mask f [] s.0 s.1) s.3 in
-        let b = blocks_closed f o c in
+        let b = blocks_closed f (asked_sound f s.0) (some_columns f [] s.0 s.1) in
         let g = columns_in f.first_column f.end_column (f.first_column / 4) in
         let h = columns_in f.first_column f.end_column (f.first_column / 4 + (across f - 1)) in
         let l = block_bytes_length (f.first_column / 4) g h f.mask (across f) f.first_row (f.end_row - f.first_row) in
         let k = length-map (touched_blocks f) (block_write f) in
         answers (6 + 13 * n) (1 + n) s.0
-        (ap length (ap encode_all x ∙ blocks_bytes f o c) ∙ omega (arith, l, b, s.2))
-        (ap length x ∙ omega (arith, k, s.2))
+        (ap length (blocks_list s) ∙ omega (arith, l, b, s.2))
+        (ap length (plan_blocks f (some_mask f [] s.0 s.1) s.3) ∙ omega (arith, k, s.2))
 
     -- the numbers are small
     pub words_most : Says f (Words n) → n ≤ 262144
@@ -125,6 +133,12 @@ module _ (f : Fill) where
         let h : f.end_row - f.first_row ≤ 512 = omega (arith, o.row_end, o.rows_most) in
         let w : across f ≤ 128 = omega (arith, o.column_end) in
         omega (arith, s.2, blocks_closed f o (some_columns f [] s.0 s.1), mul-le-mul h w)
+
+  pub shape_most : (s : Shape) → Says f s → shape_size s ≤ 262144
+  shape_most (Refused number) h = omega arith
+  shape_most Nothing h = omega arith
+  shape_most (Words words) h = words_most words h
+  shape_most (Blocks blocks) h = omega (arith, blocks_most blocks h)
 
 pub shape_answers : (f : Fill) → shape_answer (shape_of f) ≡ measure_call f
 shape_answers f = go (shape_of f) (shape_says f)
@@ -151,6 +165,52 @@ module _ (f : Fill) where
     unfolding measure_call
     measure_cycles = leaves_made (asked_refusal f) 0 (length (plan f)) z
 
+-- ---- a fill that is put: of its shape, which the code has, so many bytes and cycles are counted
+
+module _ (f : Fill) (out : List ℕ) (s : Shape) (known : s ≡ shape_of f) (bytes cycles : ℕ) (counted : filled 0 bytes cycles ≡ shape_answer s) where
+  put_measured : filled 0 bytes cycles ≡ measure_call f
+  put_measured = counted ∙ ap shape_answer known ∙ shape_answers f
+
+  put_number : (measure_call f).number ≡ 0
+  put_number = sym (ap (λ (r : Filled). r.number) put_measured)
+
+  put_asked : asked_refusal f ≡ 0
+  put_asked = sym (measure_number f) ∙ put_number
+
+  put_bytes : bytes ≡ length (list_of f)
+  put_bytes = ap (λ (r : Filled). r.bytes) put_measured ∙ measure_bytes f put_number
+
+  put_cycles : cycles ≡ length (plan f)
+  put_cycles = ap (λ (r : Filled). r.cycles) put_measured ∙ measure_cycles f put_number
+
+  -- no room for it
+  pub put_short : (n : ℕ) → n ≡ refuse (leb bytes (length out)) 15 0 → n ≢ 0 → outcome (filled n 0 0) out ≡ fill_call f out
+  put_short n e h =
+      refuses (list_of f) (length (plan f)) out n h
+      ∙ ap (λ (x : ℕ). fill_answer x (list_of f) (length (plan f)) out) (e ∙ ap (λ (x : ℕ). refuse (leb x (length out)) 15 0) put_bytes)
+      ∙ sym (fill_stores f out put_asked)
+
+  module _ (e : 0 ≡ refuse (leb bytes (length out)) 15 0) where
+    pub put_room : length (list_of f) ≤ length out
+    put_room = omega (arith, leb-true bytes (length out) (refuse_zero (leb bytes (length out)) 14 0 (sym e)).0, put_bytes)
+
+    pub put_done : (new : List ℕ) → new ≡ sets out 0 (list_of f) → outcome (filled 0 bytes cycles) new ≡ fill_call f out
+    put_done new h = stored_done (list_of f) (length (plan f)) out bytes cycles new put_bytes put_cycles put_room h ∙ sym (fill_stores f out put_asked)
+
+-- nothing to put
+pub nothing_list : (f : Fill) → Says f Nothing → list_of f ≡ []
+nothing_list f s = ap encode_all (plan_empty f [] s.0 s.1) ∙ encode_none
+
+-- ---- the colour is not asked about
+
+pub measure_any : (rows first_row end_row first_column end_column mask colour persistent : ℕ)
+    → measure_call (fill rows first_row end_row first_column end_column mask 0 persistent)
+    ≡ measure_call (fill rows first_row end_row first_column end_column mask colour persistent)
+unfolding shape_of asked_refusal inside touched
+measure_any rows first_row end_row first_column end_column mask colour persistent =
+    sym (shape_answers (fill rows first_row end_row first_column end_column mask 0 persistent))
+    ∙ shape_answers (fill rows first_row end_row first_column end_column mask colour persistent)
+
 -- ---- the colour is not asked about: s is the shape that the code has, and t the one that it has matched
 
 pub says_any : (rows first_row end_row first_column end_column mask colour persistent : ℕ) (s t : Shape)
@@ -160,11 +220,3 @@ unfolding shape_of asked_refusal inside touched
 says_any rows first_row end_row first_column end_column mask colour persistent s t e g =
     let f = fill rows first_row end_row first_column end_column mask colour persistent in
     subst (Says f) (sym e ∙ g) (shape_says f)
-
-pub measure_any : (rows first_row end_row first_column end_column mask colour persistent : ℕ)
-    → measure_call (fill rows first_row end_row first_column end_column mask 0 persistent)
-    ≡ measure_call (fill rows first_row end_row first_column end_column mask colour persistent)
-unfolding shape_of asked_refusal inside touched
-measure_any rows first_row end_row first_column end_column mask colour persistent =
-    sym (shape_answers (fill rows first_row end_row first_column end_column mask 0 persistent))
-    ∙ shape_answers (fill rows first_row end_row first_column end_column mask colour persistent)

@@ -1,8 +1,12 @@
 -- What a fill answers and leaves, for every input. A refusal answers zeros besides and changes nothing. Assumes nothing.
-use Rattle.std.specs.Prelude.{ℕ, Bool, ◌&&◌, List, eqb, leb, length}
+use Rattle.std.specs.Prelude.{ℕ, Bool, ◌&&◌, List, eqb, leb, length, Result}
+use Rattle.std.specs.Prelude.Result.{Ok, Err}
+use Rattle.numbers.specs.declared.Refusal.{Refusal}
+use Rattle.numbers.specs.Refusal.{number_of}
 use Rattle.numbers.specs.Refuse.{refuse, leaves}
 use Rattle.numbers.specs.Buffer.{over}
 use Rattle.list.specs.Encode.{encode_all}
+use Rattle.planner.specs.declared.Counts.{Counts}
 use Rattle.planner.specs.declared.Filled.{Filled}
 use Rattle.planner.specs.Fill.{Fill, plan}
 
@@ -40,6 +44,11 @@ pub record Outcome : Type 0 where
 
 abbrev pub outcome : Filled → List ℕ → Outcome
 outcome r out = record { answer = r; buffer = out }
+
+-- what C is answered: the counts of a list, or the number of what refuses it and zeros
+abbrev pub filled_by : Result Counts Refusal → Filled
+filled_by (Ok counts) = record { number = 0; bytes = counts.bytes; cycles = counts.cycles }
+filled_by (Err refusal) = record { number = number_of refusal; bytes = 0; cycles = 0 }
 
 -- a number, and the counts where it refuses nothing
 abbrev pub answered : ℕ → ℕ → ℕ → Filled

@@ -4,17 +4,11 @@ use Rattle.numbers.specs.Between.{between}
 use Rattle.words.specs.Bit.{of_bits}
 use Rattle.vram.specs.declared.Cycle.{Cycle}
 use Rattle.vram.specs.declared.Cycle.TheVariants.{WordWrite, BlockWrite, LoadColour}
+use Rattle.planner.specs.declared.Fill as declared
 
 -- what a fill takes; the ends are not included
-pub record Fill : Type 0 where
-  pub rows : ℕ
-  pub first_row : ℕ
-  pub end_row : ℕ
-  pub first_column : ℕ
-  pub end_column : ℕ
-  pub mask : ℕ
-  pub colour : ℕ
-  pub persistent : ℕ
+abbrev pub Fill : Type 0
+Fill = declared.Fill
 
 abbrev pub fill : ℕ → ℕ → ℕ → ℕ → ℕ → ℕ → ℕ → ℕ → Fill
 fill rows first_row end_row first_column end_column mask colour persistent =

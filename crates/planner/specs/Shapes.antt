@@ -1,10 +1,36 @@
 -- What a fill comes to, before a byte is written. Assumes nothing.
-use Rattle.std.specs.Prelude.{◌+◌, ◌-◌, ◌*◌, Bool, ◌||◌, cond, eqb, leb}
+use Rattle.std.specs.Prelude.{ℕ, ◌+◌, ◌-◌, ◌*◌, Bool, ◌||◌, cond, eqb, leb, Result}
+use Rattle.std.specs.Prelude.Result.{Ok, Err}
+use Rattle.numbers.specs.declared.Refusal.{Refusal}
+use Rattle.numbers.specs.Refusal.{number_of}
 use Rattle.planner.specs.declared.Filled.{Filled}
-use Rattle.planner.specs.declared.Shape.{Shape}
-use Rattle.planner.specs.declared.Shape.TheVariants.{Refused, Nothing, Words, Blocks}
+use Rattle.planner.specs.declared.Shape as code
 use Rattle.planner.specs.Fill.{Fill, W, B}
 use Rattle.planner.specs.Calls.{asked_refusal}
+
+-- refused with a number; nothing to paint; so many word writes; or a colour load and so many block writes
+pub data Shape : Type 0 where
+  Refused : ℕ → Shape
+  Nothing : Shape
+  Words : ℕ → Shape
+  Blocks : ℕ → Shape
+
+-- as the code has it, where nothing is refused
+abbrev pub made : code.Shape → Shape
+made code.TheVariants.Nothing = Nothing
+made (code.TheVariants.Words words) = Words words
+made (code.TheVariants.Blocks blocks) = Blocks blocks
+
+abbrev pub shaped_by : Result code.Shape Refusal → Shape
+shaped_by (Ok shape) = made shape
+shaped_by (Err refusal) = Refused (number_of refusal)
+
+-- how many writes
+abbrev pub shape_size : Shape → ℕ
+shape_size (Refused number) = 0
+shape_size Nothing = 0
+shape_size (Words words) = words
+shape_size (Blocks blocks) = blocks
 
 -- there is nothing to paint: M is 0, or there is no row or no column
 abbrev pub nothing : Fill → Bool

@@ -8,11 +8,7 @@ ghost use Rattle.planner.specs.Bytes.{columns_in};
 fn covered(first_column: u32, end_column: u32, column: u32) -> u16
     ensures { (result ≡ digit (between first_column end_column column)) × (result ≤ 1) }
 {
-    if (first_column <= column) & (column < end_column) {
-        1
-    } else {
-        0
-    }
+    u16::from((first_column <= column) & (column < end_column))
 }
 
 // Four column bits in all four quads: in the top one, in the upper two, in all. The last step, a byte down, keeps the compiler from a product.

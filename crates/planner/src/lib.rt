@@ -4,35 +4,99 @@
 #![tactic(auto)]
 
 ghost use Rattle.std.specs.Prelude.{◌≡◌, ◌+◌, ◌-◌, ◌*◌, ◌/◌, ◌≤◌};
+ghost use Rattle.std.specs.Prelude.Result.{Ok};
+ghost use Rattle.numbers.specs.Refusal.{given_back};
 ghost use Rattle.planner.specs.Fill.{fill};
-ghost use Rattle.planner.specs.Calls.{outcome, asked_refusal, measure_call, fill_call};
-ghost use Rattle.planner.specs.Shapes.{shape_of};
+ghost use Rattle.planner.specs.Calls.{filled_by, outcome, asked_refusal, measure_call, fill_call};
+ghost use Rattle.planner.specs.Shapes.{made, shaped_by, shape_of, shape_size, shape_answer};
 ghost use Rattle.planner.specs.Paint.{list_in, Demanded};
 
 mod columns;
-mod lists;
 mod rows;
 mod writes;
 
-use lists::{put_blocks, put_words};
-use numbers::refuse;
+use numbers::{Refusal, refuse};
+use rows::{put_blocks, put_words};
 
-// The number given back, how many bytes the list has, and how many cycles.
+// How many bytes a list has, and how many cycles.
+#[derive(Clone, Copy, Debug, PartialEq, Eq)]
+pub struct Counts {
+    pub bytes: u32,
+    pub cycles: u32,
+}
+
+// What C gets of a fill: the number given back, and the counts: zeros where it is a refusal's.
 #[repr(C)]
-#[derive(Clone, Copy)]
+#[derive(Clone, Copy, Debug, PartialEq, Eq)]
 pub struct Filled {
     pub number: u32,
     pub bytes: u32,
     pub cycles: u32,
 }
 
-// What a fill comes to: refused with a number; nothing to paint; so many word writes; or a colour load and so many block writes.
-#[derive(Clone, Copy)]
+impl From<Result<Counts, Refusal>> for Filled {
+    ghost from_gives = { λ answer filled. filled ≡ filled_by answer };
+
+    fn from(answer: Result<Counts, Refusal>) -> Filled {
+        match answer {
+            Ok(Counts { bytes, cycles }) => Filled {
+                number: 0,
+                bytes,
+                cycles,
+            },
+            Err(refusal) => Filled {
+                number: u32::from(refusal),
+                bytes: 0,
+                cycles: 0,
+            },
+        }
+    }
+}
+
+// A fill: a rectangle of the rows fitted, its ends not included, painted with a colour through a bit mask.
+// Persistent: 0 no, any other number yes.
+#[derive(Clone, Copy, Debug, PartialEq, Eq)]
+pub struct Fill {
+    pub rows: u32,
+    pub first_row: u32,
+    pub end_row: u32,
+    pub first_column: u32,
+    pub end_column: u32,
+    pub mask: u16,
+    pub colour: u16,
+    pub persistent: u32,
+}
+
+// What a fill comes to: nothing to paint; so many word writes; or a colour load and so many block writes.
+#[derive(Clone, Copy, Debug, PartialEq, Eq)]
 pub(crate) enum Shape {
-    Refused(u32),
     Nothing,
     Words(u32),
     Blocks(u32),
+}
+
+impl Shape {
+    // The counts of its list.
+    #[tactic(auto, unfolding(crate::specs::Shapes::shape_answer))]
+    fn counts(self) -> Counts
+        requires { shape_size (made self) ≤ 262144 }
+        ensures { filled_by (Ok result) ≡ shape_answer (made self) }
+    {
+        match self {
+            Shape::Nothing => Counts {
+                bytes: 0,
+                cycles: 0,
+            },
+            Shape::Words(words) => Counts {
+                bytes: 13 * words,
+                cycles: words,
+            },
+            Shape::Blocks(blocks) => Counts {
+                bytes: 6 + 13 * blocks,
+                cycles: 1 + blocks,
+            },
+        }
+    }
 }
 
 // A product of two numbers of rows and columns.
@@ -43,121 +107,75 @@ fn area(height: u32, width: u32) -> u32
     height * width
 }
 
-// How many blocks of a row are touched, where the rectangle has columns.
-fn across(first_column: u32, end_column: u32) -> u32
-    requires { (first_column ≤ end_column) × (end_column ≤ 512) }
-    ensures { (result ≡ (end_column + 3) / 4 - first_column / 4) × (result ≤ 512) }
-{
-    (end_column + 3) / 4 - first_column / 4
-}
-
-// What refuses a fill, but for its buffer: 2, 12 and 13. Mask and colour are never refused.
-fn refusal(
-    rows: u32,
-    first_row: u32,
-    end_row: u32,
-    first_column: u32,
-    end_column: u32,
-    persistent: u32,
-) -> u32
-    ensures { result ≡ asked_refusal (fill rows first_row end_row first_column end_column 0 0 persistent) }
-{
-    let n = refuse(persistent == 0, numbers::FILL_PERSISTENT, numbers::DONE);
-    let n = refuse(
-        (first_row <= end_row)
-            & (first_column <= end_column)
-            & (end_column <= 512)
-            & (end_row <= rows),
-        numbers::RECTANGLE_OUTSIDE,
-        n,
-    );
-    refuse((1 <= rows) & (rows <= 512), numbers::MEMORY_LENGTH, n)
-}
-
-// What a fill comes to: its number where that is 2, 12 or 13, and else what its list is made of.
-fn shape_of(
-    rows: u32,
-    first_row: u32,
-    end_row: u32,
-    first_column: u32,
-    end_column: u32,
-    mask: u16,
-    persistent: u32,
-) -> Shape
-    ensures { result ≡ shape_of (fill rows first_row end_row first_column end_column mask 0 persistent) }
-{
-    let number = refusal(
-        rows,
-        first_row,
-        end_row,
-        first_column,
-        end_column,
-        persistent,
-    );
-    if number != numbers::DONE {
-        return Shape::Refused(number);
+impl Fill {
+    // How many blocks of a row are touched, where the rectangle has columns.
+    fn across(self) -> u32
+        requires { (self.first_column ≤ self.end_column) × (self.end_column ≤ 512) }
+        ensures { (result ≡ (self.end_column + 3) / 4 - self.first_column / 4) × (result ≤ 512) }
+    {
+        (self.end_column + 3) / 4 - self.first_column / 4
     }
-    let height = end_row - first_row;
-    let width = end_column - first_column;
-    if (mask == 0) | (height == 0) | (width == 0) {
-        return Shape::Nothing;
-    }
-    let n = across(first_column, end_column);
-    let words = area(height, width);
-    let blocks = area(height, n);
-    if words <= 1 + blocks {
-        Shape::Words(words)
-    } else {
-        Shape::Blocks(blocks)
-    }
-}
 
-// What a fill answers where there is room enough: 2, 12, 13 or 0, the bytes of its list and the cycles. Nothing is written.
-pub fn measure(
-    rows: u32,
-    first_row: u32,
-    end_row: u32,
-    first_column: u32,
-    end_column: u32,
-    mask: u16,
-    persistent: u32,
-) -> Filled
-    ensures { result ≡ measure_call (fill rows first_row end_row first_column end_column mask 0 persistent) }
-{
-    let shape = shape_of(
-        rows,
-        first_row,
-        end_row,
-        first_column,
-        end_column,
-        mask,
-        persistent,
-    );
-    match shape {
-        Shape::Refused(number) => Filled {
-            number,
-            bytes: 0,
-            cycles: 0,
-        },
-        Shape::Nothing => Filled {
-            number: numbers::DONE,
-            bytes: 0,
-            cycles: 0,
-        },
-        Shape::Words(words) => Filled {
-            number: numbers::DONE,
-            bytes: 13 * words,
-            cycles: words,
-        },
-        Shape::Blocks(blocks) => Filled {
-            number: numbers::DONE,
-            bytes: 6 + 13 * blocks,
-            cycles: 1 + blocks,
-        },
+    // What refuses a fill, but for its buffer: 2, 12 and 13. Mask and colour are never refused.
+    #[tactic(auto, unfolding(crate::specs::Calls::asked_refusal))]
+    fn refusal(self) -> Result<(), Refusal>
+        ensures { given_back result ≡ asked_refusal self }
+    {
+        refuse((1 <= self.rows) & (self.rows <= 512), Refusal::MemoryLength)?;
+        refuse(
+            (self.first_row <= self.end_row)
+                & (self.first_column <= self.end_column)
+                & (self.end_column <= 512)
+                & (self.end_row <= self.rows),
+            Refusal::RectangleOutside,
+        )?;
+        refuse(self.persistent == 0, Refusal::FillPersistent)
+    }
+
+    // What a fill's list is made of, where it is not refused with 2, 12 or 13.
+    fn shape(self) -> Result<Shape, Refusal>
+        ensures { shaped_by result ≡ shape_of self }
+    {
+        self.refusal()?;
+        let height = self.end_row - self.first_row;
+        let width = self.end_column - self.first_column;
+        if (self.mask == 0) | (height == 0) | (width == 0) {
+            return Ok(Shape::Nothing);
+        }
+        let words = area(height, width);
+        let blocks = area(height, self.across());
+        if words <= 1 + blocks {
+            Ok(Shape::Words(words))
+        } else {
+            Ok(Shape::Blocks(blocks))
+        }
+    }
+
+    // What a fill answers where there is room enough: 2, 12, 13, or the bytes of its list and the cycles. Nothing is written.
+    pub fn measure(self) -> Result<Counts, Refusal>
+        ensures { filled_by result ≡ measure_call self }
+    {
+        Ok(self.shape()?.counts())
+    }
+
+    // A fill's list at the start of the buffer.
+    pub fn put(self, list: &mut [u8]) -> Result<Counts, Refusal>
+        ensures { outcome (filled_by result) list.new ≡ fill_call self list.old }
+    {
+        let shape = self.shape()?;
+        let counts = shape.counts();
+        refuse((counts.bytes as usize) <= list.len(), Refusal::BufferShort)?;
+        match shape {
+            Shape::Nothing => {}
+            // Before words: in this order a page, which has this in line, takes fewer instructions.
+            Shape::Blocks(_) => put_blocks(list, self),
+            Shape::Words(_) => put_words(list, self),
+        }
+        Ok(counts)
     }
 }
 
-// A fill's list at the start of the buffer. Persistent: 0 no, any other number yes.
+// A fill's list at the start of the buffer, as C has it.
 // Where it answers 0, the list is as demand 3 asks: it paints, no list that paints is shorter, and the counts are its own.
 pub fn linkshoar_fill(
     rows: u32,
@@ -173,46 +191,15 @@ pub fn linkshoar_fill(
     ensures outcome { outcome result list.new ≡ fill_call (fill rows first_row end_row first_column end_column mask colour persistent) list.old }
     ensures demand { result.number ≡ 0 → Demanded (fill rows first_row end_row first_column end_column mask colour persistent) result (list_in (outcome result list.new)) }
 {
-    let shape = shape_of(
+    let fill = Fill {
         rows,
         first_row,
         end_row,
         first_column,
         end_column,
         mask,
+        colour,
         persistent,
-    );
-    match shape {
-        Shape::Refused(number) => Filled {
-            number,
-            bytes: 0,
-            cycles: 0,
-        },
-        Shape::Nothing => Filled {
-            number: numbers::DONE,
-            bytes: 0,
-            cycles: 0,
-        },
-        // Before words: in this order a page, which has this in line, takes fewer instructions.
-        Shape::Blocks(_) => put_blocks(
-            list,
-            first_row,
-            end_row - first_row,
-            first_column / 4,
-            across(first_column, end_column),
-            first_column,
-            end_column,
-            colour,
-            mask,
-        ),
-        Shape::Words(_) => put_words(
-            list,
-            first_row,
-            end_row - first_row,
-            first_column,
-            end_column - first_column,
-            colour,
-            mask,
-        ),
-    }
+    };
+    Filled::from(fill.put(list))
 }

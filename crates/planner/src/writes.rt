@@ -60,14 +60,15 @@ pub(crate) fn put_row(
     requires { (at + 13 * n ≤ length list.old) × (first ≤ 33554432) × (step ≤ 4) × (n ≤ 512) }
     ensures { list.new ≡ sets list.old at (row_bytes tag first step value mask n) }
 {
-    let mut i: u32 = 0;
-    let mut o = at;
-    let mut place = first;
-    while i < n {
-        put_write(list, o, tag, place, value, mask);
-        o += 13;
-        i += 1;
-        place += step;
+    for i in 0..n {
+        put_write(
+            list,
+            at + 13 * (i as usize),
+            tag,
+            first + step * i,
+            value,
+            mask,
+        );
     }
 }
 

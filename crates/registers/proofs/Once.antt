@@ -6,6 +6,8 @@ use Rattle.registers.specs.contracts.lawful as lawful
 use Rattle.registers.specs.contracts.take as take
 use Rattle.registers.specs.contracts.hand as hand
 use Rattle.registers.specs.contracts.hand_ran as hand_ran
+use Rattle.registers.specs.contracts.excluded as excluded
+use Rattle.registers.specs.contracts.VramTryFromRegisters.try_from as try_take
 
 pub lawful_once : Determines lawful.signature (λ M 𝓤. lawful.clauses {M = M} {𝓤 = 𝓤})
 lawful_once = by_result refl (λ κs a v w. refl)
@@ -18,3 +20,9 @@ hand_once = by_result refl (λ κs a v w. refl)
 
 pub hand_ran_once : Determines hand_ran.signature (λ M 𝓤. hand_ran.clauses {M = M} {𝓤 = 𝓤})
 hand_ran_once = by_result refl (λ κs a v w. refl)
+
+pub excluded_once : Determines excluded.signature (λ M 𝓤. excluded.clauses {M = M} {𝓤 = 𝓤})
+excluded_once = by_result refl (λ κs a v w. refl)
+
+pub try_take_once : Determines try_take.signature (λ M 𝓤. try_take.clauses {M = M} {𝓤 = 𝓤})
+try_take_once = by_result refl (λ κs a v w. refl)

@@ -8,7 +8,7 @@ use Rattle.vram.specs.declared.Vram.{Vram}
 use Rattle.vram.specs.declared.Cycle.{Cycle}
 use Rattle.vram.specs.Board.{Board, board, effect}
 use Rattle.vram.specs.Step.{Engine}
-use Rattle.list.specs.declared.Ran.{Ran as ListRan}
+use Rattle.list.specs.Meaning.{Ran as ListRan}
 use Rattle.list.specs.Meaning.{Outcome, outcome, run_call_by, run_call}
 use Rattle.list.proofs.CallLaws.{call_given_by, call_refuses_by, calls_same}
 use Rattle.list.proofs.PersistLaws.{call_plain}

@@ -4,13 +4,18 @@ use Rattle.std.specs.Prelude.{ℕ, ◌≤◌, ◌≡◌, refl, Bool, true, false
 use Rattle.std.proofs.Common.{sym, ap, ap₂, ◌∙◌, arith, eq-eqb, eqb-true, leb-true}
 use Rattle.std.proofs.Math.Bool.{and-false}
 use Rattle.std.proofs.lemmas.Bool.{eqb-false}
+use Rattle.numbers.specs.declared.Refusal.{Refusal}
+use Rattle.numbers.specs.declared.Refusal.TheVariants.{StateExcluded}
+use Rattle.numbers.specs.Refusal.{number_of, given_back, left_by}
+use Rattle.numbers.specs.RefusalLaws.{number_not_zero}
 use Rattle.numbers.specs.Between.{both}
 use Rattle.words.specs.Bit.{digit}
 use Rattle.words.specs.BitLaws.{yes_or_no, digit_yes, digit_small}
 use Rattle.refusals.specs.Refusal.{partition_ok}
 use Rattle.vram.specs.declared.Vram.{Vram}
-use Rattle.vram.specs.declared.Waiting.{Waiting}
-use Rattle.vram.specs.declared.Waiting.TheVariants.{None, Tap}
+use Rattle.std.specs.Prelude.{Option, Result}
+use Rattle.std.specs.Prelude.Result.{Ok, Err}
+use Rattle.std.specs.Prelude.Option.{None, Some}
 use Rattle.vram.specs.State.{stop_length, stop_of}
 use Rattle.vram.specs.StopLaws.{stop_length_of, length_stop, length_ok}
 use Rattle.registers.specs.declared.Registers.{Registers}
@@ -47,7 +52,7 @@ handed_taken s e = go (eqb s.waiting 0) refl
     n : stop_length (stop_of s.stop) ≡ s.stop
     n = stop_length_of s.stop flags.4
 
-    go : (t : Bool) → eqb s.waiting 0 ≡ t → handed_by (cond t None (Tap s.tap)) (taken s) ≡ s
+    go : (t : Bool) → eqb s.waiting 0 ≡ t → handed_by (cond t None (Some s.tap)) (taken s) ≡ s
     go true q =
         let z : s.waiting ≡ 0 = eqb-true s.waiting 0 q in
         rw (p, l, n) (ap₂ (registers s.persistent s.loaded) (sym z) (sym (last (eqb s.waiting 1) refl z flags.3)))
@@ -61,21 +66,40 @@ pub taken_handed : (v : Vram) → taken (handed v) ≡ v
 unfolding taken handed
 taken_handed v = go v.waiting
   where
-    awaiting : Waiting → Vram
+    awaiting : Option ℕ → Vram
     awaiting w =
         record { colour = v.colour; mask = v.mask; persistent = v.persistent; loaded = v.loaded; pointer = v.pointer; waiting = w; stop = v.stop }
 
-    go : (w : Waiting) → taken (handed_by w v) ≡ awaiting w
+    go : (w : Option ℕ) → taken (handed_by w v) ≡ awaiting w
     go None = rw (digit_yes v.persistent, digit_yes v.loaded, length_stop v.stop)
-    go (Tap tap) = rw (digit_yes v.persistent, digit_yes v.loaded, length_stop v.stop)
+    go (Some tap) = rw (digit_yes v.persistent, digit_yes v.loaded, length_stop v.stop)
 
 pub handed_lawful : (v : Vram) → lawful (handed v) ≡ true
 unfolding lawful handed
 handed_lawful v = go v.waiting
   where
-    go : (w : Waiting) → lawful (handed_by w v) ≡ true
+    go : (w : Option ℕ) → lawful (handed_by w v) ≡ true
     go None = rw (digit_small v.persistent, digit_small v.loaded) (length_ok v.stop)
-    go (Tap tap) = rw (digit_small v.persistent, digit_small v.loaded) (length_ok v.stop)
+    go (Some tap) = rw (digit_small v.persistent, digit_small v.loaded) (length_ok v.stop)
+
+-- ---- the state taken from C, or 1
+
+abbrev took : Registers → Result Vram Refusal
+took s = taking s (λ v. Ok v) (Err StateExcluded)
+
+pub taken_ok : (s : Registers) (v : Vram) → Ok v ≡ took s → (lawful s ≡ true) × (v ≡ taken s)
+taken_ok s v e = go (lawful s) refl e
+  where
+    go : (t : Bool) → lawful s ≡ t → Ok v ≡ cond t (Ok (taken s)) (Err StateExcluded) → (lawful s ≡ true) × (v ≡ taken s)
+    go true q f = (q, ap (left_by v) f)
+    go false q f = absurd (omega (arith, ap given_back f))
+
+pub taken_err : (s : Registers) (refusal : Refusal) → Err refusal ≡ took s → (lawful s ≡ false) × (number_of refusal ≡ 1)
+taken_err s refusal e = go (lawful s) refl e
+  where
+    go : (t : Bool) → lawful s ≡ t → Err refusal ≡ cond t (Ok (taken s)) (Err StateExcluded) → (lawful s ≡ false) × (number_of refusal ≡ 1)
+    go true q f = absurd (number_not_zero refusal (ap given_back f))
+    go false q f = (q, ap given_back f)
 
 -- ---- a call that takes the state from C
 
@@ -119,9 +143,9 @@ pub handed_plain : (v : Vram) → v.persistent ≡ false → (handed v).persiste
 unfolding handed
 handed_plain v e = go v.waiting ∙ ap digit e
   where
-    go : (w : Waiting) → (handed_by w v).persistent ≡ digit v.persistent
+    go : (w : Option ℕ) → (handed_by w v).persistent ≡ digit v.persistent
     go None = refl
-    go (Tap tap) = refl
+    go (Some tap) = refl
 
 taken_plain : (s : Registers) → s.persistent ≡ 0 → (taken s).persistent ≡ false
 unfolding taken

@@ -3,14 +3,20 @@
 #![tactic(auto)]
 
 ghost use Rattle.std.specs.Prelude.{◌≡◌};
-ghost use Rattle.registers.specs.State.{lawful, waiting_of, taken, handed, handed_ran};
+ghost use Rattle.std.specs.Prelude.Result.{Ok, Err};
+ghost use Rattle.numbers.specs.declared.Refusal.TheVariants.{StateExcluded};
+ghost use Rattle.numbers.specs.Refusal.{number_of};
+ghost use Rattle.list.specs.Meaning.{ran_by};
+ghost use Rattle.registers.specs.State.{lawful, waiting_of, taken, taking, handed, handed_ran};
 
+use list::Refused;
+use numbers::{Refusal, refuse};
 use refusals::partition_ok;
-use vram::{Stop, Vram, Waiting};
+use vram::{Stop, Vram};
 
 // The registers. waiting: 0 none, 1 tap. stop: the length of a partition.
 #[repr(C)]
-#[derive(Clone, Copy)]
+#[derive(Clone, Copy, Debug, PartialEq, Eq)]
 pub struct Registers {
     pub colour: u16,
     pub mask: u16,
@@ -24,14 +30,16 @@ pub struct Registers {
 
 // The state after a list, the number given back, and the offset of the field that it is about.
 #[repr(C)]
-#[derive(Clone, Copy)]
+#[derive(Clone, Copy, Debug, PartialEq, Eq)]
 pub struct Ran {
     pub state: Registers,
     pub number: u32,
     pub place: u64,
 }
 
+// `lawful` and `take` stand beside `TryFrom` below, since both answer for any bytes.
 // Whether a `Vram` can be so: yes-or-no bytes of 0 or 1, no tap where nothing waits, and a partition of one of the four lengths.
+#[tactic(auto, unfolding(crate::specs::State::lawful))]
 pub fn lawful(state: Registers) -> bool
     ensures { result ≡ lawful state }
 {
@@ -42,74 +50,86 @@ pub fn lawful(state: Registers) -> bool
         & partition_ok(state.stop)
 }
 
-fn waiting_of(waiting: u8, tap: u8) -> Waiting
+fn waiting_of(waiting: u8, tap: u8) -> Option<u8>
     ensures { result ≡ waiting_of waiting tap }
 {
-    if waiting == 0 {
-        Waiting::None
-    } else {
-        Waiting::Tap(tap)
-    }
+    if waiting == 0 { None } else { Some(tap) }
 }
 
 // The state as `vram` has it. Whoever calls this has asked `lawful`; other bytes are taken for some state all the same.
+#[tactic(auto, unfolding(crate::specs::State::taken))]
 pub fn take(state: Registers) -> Vram
     ensures { result ≡ taken state }
 {
-    let waiting = waiting_of(state.waiting, state.tap);
-    let stop = Stop::of(state.stop);
     Vram {
         colour: state.colour,
         mask: state.mask,
         persistent: state.persistent != 0,
         loaded: state.loaded != 0,
         pointer: state.pointer,
-        waiting,
-        stop,
+        waiting: waiting_of(state.waiting, state.tap),
+        stop: Stop::of(state.stop),
+    }
+}
+
+// The state that C hands over, or 1 where no `Vram` can be so.
+impl TryFrom<Registers> for Vram {
+    type Error = Refusal;
+
+    ghost try_from_gives = { λ state answer. answer ≡ taking state (λ vram. Ok vram) (Err StateExcluded) };
+
+    fn try_from(state: Registers) -> Result<Vram, Refusal> {
+        refuse(lawful(state), Refusal::StateExcluded)?;
+        Ok(take(state))
     }
 }
 
 // The state as C has it.
+#[tactic(auto, unfolding(crate::specs::State::handed))]
 pub fn hand(state: Vram) -> Registers
     ensures { result ≡ handed state }
 {
-    let persistent = state.persistent as u8;
-    let loaded = state.loaded as u8;
-    let waiting = state.waiting;
-    let stop = state.stop;
-    let length = stop.length();
-    match waiting {
-        Waiting::None => Registers {
-            colour: state.colour,
-            mask: state.mask,
-            persistent,
-            loaded,
-            pointer: state.pointer,
-            waiting: 0,
-            tap: 0,
-            stop: length,
+    let (waiting, tap) = match state.waiting {
+        None => (0, 0),
+        Some(tap) => (1, tap),
+    };
+    Registers {
+        colour: state.colour,
+        mask: state.mask,
+        persistent: u8::from(state.persistent),
+        loaded: u8::from(state.loaded),
+        pointer: state.pointer,
+        waiting,
+        tap,
+        stop: state.stop.length(),
+    }
+}
+
+// The answer to a list, of the state before it.
+pub fn hand_ran(before: Vram, answer: Result<Vram, Refused>) -> Ran
+    ensures { result ≡ handed_ran (ran_by before answer) }
+{
+    match answer {
+        Ok(state) => Ran {
+            state: hand(state),
+            number: 0,
+            place: 0,
         },
-        Waiting::Tap(tap) => Registers {
-            colour: state.colour,
-            mask: state.mask,
-            persistent,
-            loaded,
-            pointer: state.pointer,
-            waiting: 1,
-            tap,
-            stop: length,
+        Err(refused) => Ran {
+            state: hand(before),
+            number: u32::from(refused.refusal),
+            place: refused.place,
         },
     }
 }
 
-// The answer to a list.
-pub fn hand_ran(ran: list::Ran) -> Ran
-    ensures { result ≡ handed_ran ran }
+// The answer where no `Vram` can be so: the state as it came.
+pub fn excluded(state: Registers, refusal: Refusal) -> Ran
+    ensures { result ≡ record { state = state; number = number_of refusal; place = 0 } }
 {
-    let state = ran.state;
     Ran {
-        state: hand(state),
-        number: ran.number,
-        place: ran.place,
+        state,
+        number: u32::from(refusal),
+        place: 0,
     }
 }

@@ -2,7 +2,9 @@
 
 -- digits, lines, and bytes put into a buffer
 pub mod Text
--- of the same
+-- the same of a page
+pub mod Page
+-- laws of texts
 pub mod TextLaws
 -- the text of a list, and the call
 pub mod Report

@@ -1,11 +1,12 @@
 -- What a report answers and leaves, for every list: document 01, "The program `play`". Assumes nothing.
-use Rattle.std.specs.Prelude.{ℕ, cond, List, leb, length, replicate}
+use Rattle.std.specs.Prelude.{ℕ, cond, List, leb, length, replicate, Result}
+use Rattle.numbers.specs.declared.Refusal.{Refusal}
+use Rattle.numbers.specs.Refusal.{given_back, left_by}
 use Rattle.numbers.specs.Refuse.{refuse, leaves}
 use Rattle.numbers.specs.Buffer.{over}
 use Rattle.vram.specs.State.{fresh}
 use Rattle.vram.specs.Board.{Board, board}
 use Rattle.list.specs.Meaning.{Outcome, run_call}
-use Rattle.report.specs.declared.Reported.{Reported}
 use Rattle.report.specs.Text.{all_lines, too_long}
 
 -- 64 rows of zeros and a fresh state
@@ -20,6 +21,14 @@ unfoldable pub text_of : List ℕ → List ℕ
 text_of list = cond (leb (length list) 4096) (lines_of (run_call list start)) too_long
 
 -- ---- a text at the start of a buffer, with room for it; spare bytes stay
+
+-- the number given back, and how many bytes the text has
+pub record Reported : Type 0 where
+  pub number : ℕ
+  pub bytes : ℕ
+
+abbrev pub reported_by : Result ℕ Refusal → Reported
+reported_by answer = record { number = given_back answer; bytes = left_by 0 answer }
 
 pub record Told : Type 0 where
   pub answer : Reported

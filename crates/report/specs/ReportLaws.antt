@@ -11,11 +11,11 @@ use Rattle.vram.specs.declared.Vram.{Vram}
 use Rattle.vram.specs.State.{fresh}
 use Rattle.vram.specs.Board.{board}
 use Rattle.vram.proofs.RuleLaws.{run_sized}
-use Rattle.list.specs.declared.Ran.{Ran}
+use Rattle.list.specs.Meaning.{Ran}
 use Rattle.list.specs.Meaning.{Outcome, outcome, cycles_of, verdict_of, run_call}
 use Rattle.list.proofs.CallLaws.{call_given, call_runs, call_refuses}
 use Rattle.list.proofs.RangeLaws.{call_most}
-use Rattle.report.specs.declared.Reported.{Reported}
+use Rattle.report.specs.Report.{Reported}
 use Rattle.report.specs.Text.{all_lines, too_long, Put}
 use Rattle.report.specs.TextLaws.{put_size, put_over, all_lines_most}
 use Rattle.report.specs.Report.{start, lines_of, text_of, Told, told, tell, report_call}

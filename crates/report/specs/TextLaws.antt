@@ -9,7 +9,7 @@ use Rattle.report.specs.Text.{digit, digit_from, decimal, hex, answer_line, word
 
 -- ---- bytes written from a place of a buffer on
 
-length_take_is : (n : ℕ) (l : List ℕ) → n ≤ length l → length (take n l) ≡ n
+pub length_take_is : (n : ℕ) (l : List ℕ) → n ≤ length l → length (take n l) ≡ n
 length_take_is n l h = simp length-take (omega arith)
 
 pub put_nothing : (t : List ℕ) (at : ℕ) → Put t at [] t at
@@ -32,6 +32,15 @@ put_next t now bs at i h e =
     let s : take (i + 1) bs ≡ take i bs ++ get_or bs i 0 ∷ [] = ap (λ (n : ℕ). take n bs) (add-one i) ∙ take-suc bs i 0 h in
     let n : at + i ≡ at + length (take i bs) = ap (λ (x : ℕ). at + x) (sym (length_take_is i bs (omega arith))) in
     ap₂ (λ (x : List ℕ) (k : ℕ). set x k (get_or bs i 0)) e n ∙ sets_append (take i bs) (get_or bs i 0 ∷ []) t at ∙ ap (sets t at) (sym s)
+
+pub put_more : {t t₁ t₂ : List ℕ} {at at₁ at₂ b : ℕ} (bs : List ℕ) (i : ℕ) → i < length bs → b ≡ get_or bs i 0
+    → Put t at (take i bs) t₁ at₁ → Put t₁ at₁ (b ∷ []) t₂ at₂ → Put t at (take (i + 1) bs) t₂ at₂
+put_more {t} {t₁} {t₂} {at} {at₁} {at₂} {b} bs i h e p q =
+    let n : at₁ ≡ at + i = p.end ∙ ap (λ (k : ℕ). at + k) (length_take_is i bs (omega arith)) in
+    record {
+      text = q.text ∙ ap₂ (λ (k x : ℕ). set t₁ k x) n e ∙ put_next t t₁ bs at i h p.text;
+      end = q.end ∙ omega (arith, n, length_take_is (i + 1) bs (omega arith));
+    }
 
 -- from the start of a buffer, with room: the text, and the spare bytes as they were
 pub put_over : {t t' bs : List ℕ} {at' : ℕ} → Put t 0 bs t' at' → length bs ≤ length t → t' ≡ over bs t
@@ -111,7 +120,7 @@ words_most ws = subst (λ (l : List ℕ). length (word_lines 0 l) ≤ 15 * lengt
 
 -- the answer line and 15 bytes for each word
 pub all_lines_most : (number place : ℕ) (memory : List ℕ) → length (all_lines number place memory) ≤ 20 + 15 * length memory
-all_lines_most number place memory = go (eqb number 0)
+all_lines_most number place memory = go _
   where
     go : (t : Bool) → length (answer_line number place ++ cond t (word_lines 0 memory) []) ≤ 20 + 15 * length memory
     go true =

@@ -2,7 +2,7 @@
 use Rattle.std.proofs.Common.{◌≡◌, ℕ, eqb, ◌≢◌, List, length, get_or, eqb-true}
 use Rattle.numbers.specs.RefuseLaws.{refuse_zero, leaves_before}
 use Rattle.vram.specs.declared.Vram.{Vram}
-use Rattle.vram.specs.declared.Clocked.{Clocked}
+use Rattle.vram.specs.Calls.{Clocked}
 use Rattle.vram.specs.declared.Word.{Word}
 use Rattle.vram.specs.State.{ruled}
 use Rattle.vram.specs.Serial.{through, clock, clocks}

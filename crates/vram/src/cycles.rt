@@ -1,7 +1,8 @@
 // The eight cycles. `Vram::cycle` tells the kinds apart; each judges what it is given, then its own numbers, then acts. What is given is
 // not judged before the kinds are told apart: so a list's choice by the tag and the choice of the kind become one in the machine's code.
+// A cycle's numbers go one by one, as a field's body and the definitions have them.
 ghost use Rattle.std.specs.Prelude.{◌≡◌, ◌+◌, ◌*◌, ◌/◌, ◌≤◌, true, false, ◌&&◌, length};
-ghost use Rattle.numbers.specs.Refuse.{first_of, leaves};
+ghost use Rattle.numbers.specs.Refuse.{first_of};
 ghost use Rattle.words.specs.Bit.{of_bits};
 ghost use Rattle.words.specs.Word.{merged, covers, lets};
 ghost use Rattle.vram.specs.State.{stop_of, with_colour, with_mask, with_serial, with_stop, other};
@@ -9,12 +10,13 @@ ghost use Rattle.vram.specs.Memory.{put, puts, copied};
 ghost use Rattle.vram.specs.Board.{board, in_force, allowed};
 ghost use Rattle.vram.specs.Refusal.{given};
 ghost use Rattle.refusals.specs.Refusal.{write_refusal, load_refusal, full_refusal, split_refusal, stop_refusal};
-ghost use Rattle.vram.specs.Calls.{answers, outcome, cycle_call, Transferred};
-ghost use Rattle.vram.specs.declared.Waiting.TheVariants.{None, Tap};
+ghost use Rattle.vram.specs.Calls.{answered_by, answers, outcome, cycle_call, Wrote, Transferred};
+ghost use Rattle.std.specs.Prelude.Option.{None, Some};
 ghost use Rattle.vram.specs.declared.Stop.TheVariants.{Every128};
 
 use crate::memory::{copy, place, write_block, write_word};
-use crate::{Answered, Cycle, Stop, Vram, Waiting};
+use crate::{Cycle, Stop, Vram};
+use numbers::Refusal;
 use refusals::{full_refusal, load_refusal, split_refusal, stop_refusal, write_refusal};
 
 impl Vram {
@@ -52,21 +54,14 @@ impl Vram {
         masking: u8,
         mask: u16,
         strobes: u8,
-    ) -> u32
-        ensures number { result ≡ first_of (given self (length memory.old) serial_words) (write_refusal (length memory.old / 512) row column masking mask strobes) }
-        ensures leaves { memory.new ≡ leaves result memory.old (put memory.old (512 * row + column) word (allowed self masking mask strobes)) }
+    ) -> Result<Vram, Refusal>
+        ensures { Wrote (first_of (given self (length memory.old) serial_words) (write_refusal (length memory.old / 512) row column masking mask strobes)) self memory.old (put memory.old (512 * row + column) word (allowed self masking mask strobes)) (answered_by self result) memory.new }
     {
-        let n = self.given(memory.len(), serial_words);
-        if n != numbers::DONE {
-            return n;
-        }
-        let n = write_refusal(memory.len() / 512, row, column, masking, mask, strobes);
-        if n != numbers::DONE {
-            return n;
-        }
+        self.given(memory.len(), serial_words)?;
+        write_refusal(memory.len() / 512, row, column, masking, mask, strobes)?;
         let at = place(row as u32, column as u32);
         write_word(memory, at, word, self.allowed(masking, mask, strobes));
-        numbers::DONE
+        Ok(self)
     }
 
     fn block_write(
@@ -79,18 +74,11 @@ impl Vram {
         masking: u8,
         mask: u16,
         strobes: u8,
-    ) -> u32
-        ensures number { result ≡ first_of (given self (length memory.old) serial_words) (write_refusal (length memory.old / 512) row column masking mask strobes) }
-        ensures leaves { memory.new ≡ leaves result memory.old (puts memory.old (512 * row + 4 * (column / 4)) self.colour (λ j b. lets columns j b && allowed self masking mask strobes b) 4) }
+    ) -> Result<Vram, Refusal>
+        ensures { Wrote (first_of (given self (length memory.old) serial_words) (write_refusal (length memory.old / 512) row column masking mask strobes)) self memory.old (puts memory.old (512 * row + 4 * (column / 4)) self.colour (λ j b. lets columns j b && allowed self masking mask strobes b) 4) (answered_by self result) memory.new }
     {
-        let n = self.given(memory.len(), serial_words);
-        if n != numbers::DONE {
-            return n;
-        }
-        let n = write_refusal(memory.len() / 512, row, column, masking, mask, strobes);
-        if n != numbers::DONE {
-            return n;
-        }
+        self.given(memory.len(), serial_words)?;
+        write_refusal(memory.len() / 512, row, column, masking, mask, strobes)?;
         let base = place(row as u32, 4 * (column as u32 / 4));
         write_block(
             memory,
@@ -99,75 +87,52 @@ impl Vram {
             columns,
             self.allowed(masking, mask, strobes),
         );
-        numbers::DONE
+        Ok(self)
     }
 
-    fn load_colour(self, words: usize, serial_words: usize, word: u16, strobes: u8) -> Answered
-        ensures { result ≡ answers (first_of (given self words serial_words) (load_refusal strobes)) self (with_colour self (merged self.colour word (covers strobes))) }
+    fn load_colour(
+        self,
+        words: usize,
+        serial_words: usize,
+        word: u16,
+        strobes: u8,
+    ) -> Result<Vram, Refusal>
+        ensures { answered_by self result ≡ answers (first_of (given self words serial_words) (load_refusal strobes)) self (with_colour self (merged self.colour word (covers strobes))) }
     {
-        let n = self.given(words, serial_words);
-        if n != numbers::DONE {
-            return Answered {
-                state: self,
-                number: n,
-            };
-        }
-        let n = load_refusal(strobes);
-        if n != numbers::DONE {
-            return Answered {
-                state: self,
-                number: n,
-            };
-        }
+        self.given(words, serial_words)?;
+        load_refusal(strobes)?;
         let colour = words::merge(self.colour, word, words::strobe_mask(strobes as u32));
-        let state = self.with_colour(colour);
-        Answered {
-            state,
-            number: numbers::DONE,
-        }
+        Ok(Vram { colour, ..self })
     }
 
-    fn load_mask(self, words: usize, serial_words: usize, word: u16, strobes: u8) -> Answered
-        ensures { result ≡ answers (first_of (given self words serial_words) (load_refusal strobes)) self (with_mask self (merged self.mask word (covers strobes)) true) }
+    fn load_mask(
+        self,
+        words: usize,
+        serial_words: usize,
+        word: u16,
+        strobes: u8,
+    ) -> Result<Vram, Refusal>
+        ensures { answered_by self result ≡ answers (first_of (given self words serial_words) (load_refusal strobes)) self (with_mask self (merged self.mask word (covers strobes)) true) }
     {
-        let n = self.given(words, serial_words);
-        if n != numbers::DONE {
-            return Answered {
-                state: self,
-                number: n,
-            };
-        }
-        let n = load_refusal(strobes);
-        if n != numbers::DONE {
-            return Answered {
-                state: self,
-                number: n,
-            };
-        }
+        self.given(words, serial_words)?;
+        load_refusal(strobes)?;
         let mask = words::merge(self.mask, word, words::strobe_mask(strobes as u32));
-        let state = self.with_mask(mask, true);
-        Answered {
-            state,
-            number: numbers::DONE,
-        }
+        Ok(Vram {
+            mask,
+            persistent: true,
+            ..self
+        })
     }
 
-    fn reset_refresh(self, words: usize, serial_words: usize) -> Answered
-        ensures { result ≡ answers (first_of (given self words serial_words) 0) self (with_stop (with_mask self self.mask false) Every128) }
+    fn reset_refresh(self, words: usize, serial_words: usize) -> Result<Vram, Refusal>
+        ensures { answered_by self result ≡ answers (first_of (given self words serial_words) 0) self (with_stop (with_mask self self.mask false) Every128) }
     {
-        let n = self.given(words, serial_words);
-        if n != numbers::DONE {
-            return Answered {
-                state: self,
-                number: n,
-            };
-        }
-        let plain = self.with_mask(self.mask, false);
-        let state = plain.with_stop(Stop::Every128);
-        Answered {
-            state,
-            number: numbers::DONE,
-        }
+        self.given(words, serial_words)?;
+        Ok(Vram {
+            persistent: false,
+            stop: Stop::Every128,
+            ..self
+        })
     }
 
     fn full_transfer(
@@ -177,30 +142,19 @@ impl Vram {
         row: u16,
         half: u8,
         tap: u8,
-    ) -> Answered
-        ensures { Transferred (first_of (given self (length memory.now) (length serial.old)) (full_refusal (length memory.now / 512) row half)) self (with_serial self true tap None) serial.old (copied memory.now (512 * row + 256 * half) serial.old 0 256) result serial.new }
+    ) -> Result<Vram, Refusal>
+        ensures { Transferred (first_of (given self (length memory.now) (length serial.old)) (full_refusal (length memory.now / 512) row half)) self (with_serial self true tap None) serial.old (copied memory.now (512 * row + 256 * half) serial.old 0 256) (answered_by self result) serial.new }
     {
-        let n = self.given(memory.len(), serial.len());
-        if n != numbers::DONE {
-            return Answered {
-                state: self,
-                number: n,
-            };
-        }
-        let n = full_refusal(memory.len() / 512, row, half);
-        if n != numbers::DONE {
-            return Answered {
-                state: self,
-                number: n,
-            };
-        }
+        self.given(memory.len(), serial.len())?;
+        full_refusal(memory.len() / 512, row, half)?;
         let from = place(row as u32, 256 * (half as u32));
         copy(memory, from, serial, 0, 256);
-        let state = self.with_serial(true, tap, Waiting::None);
-        Answered {
-            state,
-            number: numbers::DONE,
-        }
+        Ok(Vram {
+            loaded: true,
+            pointer: tap,
+            waiting: None,
+            ..self
+        })
     }
 
     fn split_transfer(
@@ -210,61 +164,40 @@ impl Vram {
         row: u16,
         half: u8,
         tap: u8,
-    ) -> Answered
-        ensures { Transferred (first_of (given self (length memory.now) (length serial.old)) (split_refusal (length memory.now / 512) self.loaded row half tap)) self (with_serial self self.loaded self.pointer (Tap (128 * other self.pointer + tap))) serial.old (copied memory.now (512 * row + 256 * half + 128 * other self.pointer) serial.old (128 * other self.pointer) 128) result serial.new }
+    ) -> Result<Vram, Refusal>
+        ensures { Transferred (first_of (given self (length memory.now) (length serial.old)) (split_refusal (length memory.now / 512) self.loaded row half tap)) self (with_serial self self.loaded self.pointer (Some (128 * other self.pointer + tap))) serial.old (copied memory.now (512 * row + 256 * half + 128 * other self.pointer) serial.old (128 * other self.pointer) 128) (answered_by self result) serial.new }
     {
-        let n = self.given(memory.len(), serial.len());
-        if n != numbers::DONE {
-            return Answered {
-                state: self,
-                number: n,
-            };
-        }
-        let n = split_refusal(memory.len() / 512, self.loaded, row, half, tap);
-        if n != numbers::DONE {
-            return Answered {
-                state: self,
-                number: n,
-            };
-        }
+        self.given(memory.len(), serial.len())?;
+        split_refusal(memory.len() / 512, self.loaded, row, half, tap)?;
         let first = self.other_half();
         let to = first as usize;
         let from = place(row as u32, 256 * (half as u32)) + to;
         copy(memory, from, serial, to, 128);
-        let state = self.with_serial(self.loaded, self.pointer, Waiting::Tap(first + tap));
-        Answered {
-            state,
-            number: numbers::DONE,
-        }
+        Ok(Vram {
+            waiting: Some(first + tap),
+            ..self
+        })
     }
 
-    fn stop_points(self, words: usize, serial_words: usize, length: u8) -> Answered
-        ensures { result ≡ answers (first_of (given self words serial_words) (stop_refusal length)) self (with_stop self (stop_of length)) }
+    fn stop_points(self, words: usize, serial_words: usize, length: u8) -> Result<Vram, Refusal>
+        ensures { answered_by self result ≡ answers (first_of (given self words serial_words) (stop_refusal length)) self (with_stop self (stop_of length)) }
     {
-        let n = self.given(words, serial_words);
-        if n != numbers::DONE {
-            return Answered {
-                state: self,
-                number: n,
-            };
-        }
-        let n = stop_refusal(length);
-        if n != numbers::DONE {
-            return Answered {
-                state: self,
-                number: n,
-            };
-        }
-        let state = self.with_stop(Stop::of(length));
-        Answered {
-            state,
-            number: numbers::DONE,
-        }
+        self.given(words, serial_words)?;
+        stop_refusal(length)?;
+        Ok(Vram {
+            stop: Stop::of(length),
+            ..self
+        })
     }
 
     // The only call that performs a cycle: it refuses or performs.
-    pub fn cycle(self, memory: &mut [u16], serial: &mut [u16], cycle: Cycle) -> Answered
-        ensures { outcome result memory.new serial.new ≡ cycle_call cycle (board self memory.old serial.old) }
+    pub fn cycle(
+        self,
+        memory: &mut [u16],
+        serial: &mut [u16],
+        cycle: Cycle,
+    ) -> Result<Vram, Refusal>
+        ensures { outcome (answered_by self result) memory.new serial.new ≡ cycle_call cycle (board self memory.old serial.old) }
     {
         match cycle {
             Cycle::WordWrite {
@@ -274,22 +207,16 @@ impl Vram {
                 masking,
                 mask,
                 strobes,
-            } => {
-                let n = self.word_write(
-                    memory,
-                    serial.len(),
-                    row,
-                    column,
-                    word,
-                    masking,
-                    mask,
-                    strobes,
-                );
-                Answered {
-                    state: self,
-                    number: n,
-                }
-            }
+            } => self.word_write(
+                memory,
+                serial.len(),
+                row,
+                column,
+                word,
+                masking,
+                mask,
+                strobes,
+            ),
             Cycle::BlockWrite {
                 row,
                 column,
@@ -297,22 +224,16 @@ impl Vram {
                 masking,
                 mask,
                 strobes,
-            } => {
-                let n = self.block_write(
-                    memory,
-                    serial.len(),
-                    row,
-                    column,
-                    columns,
-                    masking,
-                    mask,
-                    strobes,
-                );
-                Answered {
-                    state: self,
-                    number: n,
-                }
-            }
+            } => self.block_write(
+                memory,
+                serial.len(),
+                row,
+                column,
+                columns,
+                masking,
+                mask,
+                strobes,
+            ),
             Cycle::LoadColour { word, strobes } => self.load_colour(
                 memory.len(),
                 serial.len(),

@@ -8,7 +8,7 @@
 
 ghost use Rattle.std.specs.Prelude.{◌≡◌};
 ghost use Rattle.vram.specs.State.{stop_length, stop_of, fresh};
-ghost use Rattle.vram.specs.Calls.{word_read_call};
+ghost use Rattle.vram.specs.Calls.{word_read_by, word_read_call};
 
 mod cycles;
 mod memory;
@@ -17,18 +17,11 @@ mod serial;
 mod state;
 
 use memory::place;
-use numbers::refuse;
+use numbers::{Refusal, number, refuse};
 use refusals::{fitted, placed};
 
-// The tap that a split transfer leaves for the end of the pointer's partition.
-#[derive(Clone, Copy)]
-pub enum Waiting {
-    None,
-    Tap(u8),
-}
-
 // The length of a partition of the serial register: a stop point every so many places. There is no other length to exclude.
-#[derive(Clone, Copy)]
+#[derive(Clone, Copy, Debug, PartialEq, Eq)]
 pub enum Stop {
     Every16,
     Every32,
@@ -36,20 +29,22 @@ pub enum Stop {
     Every128,
 }
 
-// The registers, by value. Every field is public: a state that the rules exclude can be built, and is refused.
-#[derive(Clone, Copy)]
+// The registers, by value. Every field is public: a state that the rules exclude can be built, and is refused. What waits is the tap that a
+// split transfer leaves for the end of the pointer's partition.
+#[derive(Clone, Copy, Debug, PartialEq, Eq)]
 pub struct Vram {
     pub colour: u16,
     pub mask: u16,
     pub persistent: bool,
     pub loaded: bool,
     pub pointer: u8,
-    pub waiting: Waiting,
+    pub waiting: Option<u8>,
     pub stop: Stop,
 }
 
-// A cycle on the memory, with the widths of a field's body.
-#[derive(Clone, Copy)]
+// A cycle on the memory, with the widths of a field's body. Masking, strobes, half and length stay numbers, since another is answered with
+// its refusal: an enum would ask more of callers.
+#[derive(Clone, Copy, Debug, PartialEq, Eq)]
 pub enum Cycle {
     WordWrite {
         row: u16,
@@ -91,39 +86,17 @@ pub enum Cycle {
     },
 }
 
-// The state after a call, and the number given back.
-#[derive(Clone, Copy)]
-pub struct Answered {
-    pub state: Vram,
-    pub number: u32,
-}
-
-// The same of a serial clock, with the word answered.
-#[derive(Clone, Copy)]
-pub struct Clocked {
-    pub state: Vram,
-    pub word: u16,
-    pub number: u32,
-}
-
-// The same of a run of clocks, with how many more lead through the end of the partition.
-#[derive(Clone, Copy)]
-pub struct Moved {
-    pub state: Vram,
-    pub through: u32,
-    pub number: u32,
-}
-
-// What a word read gives back.
+// What C gets of a word read: the number given back, and the word.
 #[repr(C)]
-#[derive(Clone, Copy)]
+#[derive(Clone, Copy, Debug, PartialEq, Eq)]
 pub struct Word {
     pub number: u32,
     pub word: u16,
 }
 
 impl Stop {
-    // The stop points of a partition's length: whoever has another than the four refuses it before.
+    // The stop points of a partition's length: whoever has another than the four refuses it before. It answers for every number, as
+    // `of_once` says, so it is no `TryFrom`.
     pub fn of(length: u8) -> Stop
         ensures { result ≡ stop_of length }
     {
@@ -158,24 +131,30 @@ impl Vram {
             persistent: false,
             loaded: false,
             pointer: 0,
-            waiting: Waiting::None,
+            waiting: None,
             stop: Stop::Every128,
         }
     }
 }
 
-// A word read: the word, with 0 in a byte not strobed.
+// The word, with 0 in a byte not strobed.
+#[tactic(auto, unfolding(crate::specs::Calls::word_read_call, crate::specs::Refusal::word_read_refusal))]
+fn word_read(memory: &[u16], row: u32, column: u32, strobes: u32) -> Result<u16, Refusal>
+    ensures { word_read_by result ≡ word_read_call memory.now row column strobes }
+{
+    refuse(fitted(memory.len()), Refusal::MemoryLength)?;
+    placed(memory.len() / 512, row, column, strobes)?;
+    let at = place(row, column);
+    Ok(words::merge(0, memory[at], words::strobe_mask(strobes)))
+}
+
+// A word read, as C has it.
 pub fn read(memory: &[u16], row: u32, column: u32, strobes: u32) -> Word
     ensures { result ≡ word_read_call memory.now row column strobes }
 {
-    let n = placed(memory.len() / 512, row, column, strobes);
-    let n = refuse(fitted(memory.len()), numbers::MEMORY_LENGTH, n);
-    if n != numbers::DONE {
-        return Word { number: n, word: 0 };
-    }
-    let at = place(row, column);
+    let word = word_read(memory, row, column, strobes);
     Word {
-        number: numbers::DONE,
-        word: words::merge(0, memory[at], words::strobe_mask(strobes)),
+        number: number(word),
+        word: word.unwrap_or(0),
     }
 }

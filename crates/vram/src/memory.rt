@@ -45,9 +45,5 @@ pub(crate) fn copy(memory: &[u16], from: usize, serial: &mut [u16], to: usize, n
     requires { (from + n ≤ length memory.now) × (to + n ≤ length serial.old) }
     ensures { serial.new ≡ copied memory.now from serial.old to n }
 {
-    let mut i = 0;
-    while i < n {
-        serial[to + i] = memory[from + i];
-        i += 1;
-    }
+    serial[to..to + n].copy_from_slice(&memory[from..from + n]);
 }

@@ -1,10 +1,10 @@
 // The serial port: the clock, and how a run of clocks moves. The tap is used up and the pointer advanced here and nowhere else.
 ghost use Rattle.std.specs.Prelude.{◌≡◌, ◌<◌};
 ghost use Rattle.vram.specs.Serial.{after, through, clocks};
-ghost use Rattle.vram.specs.Calls.{clock_call, clocks_call};
+ghost use Rattle.vram.specs.Calls.{clocked_by, clock_call, moved_by, clocks_call};
 
-use crate::{Clocked, Moved, Vram, Waiting};
-use numbers::refuse;
+use crate::Vram;
+use numbers::{Refusal, refuse};
 
 // The place so many after another, 255 going to 0. The second clause is the range of a u8, which the callers' proofs use.
 fn advance(place: u8, count: u32) -> u8
@@ -18,75 +18,50 @@ impl Vram {
     fn through(self) -> u32
         ensures { result ≡ through self }
     {
-        let pointer = self.pointer;
-        let stop = self.stop;
-        let length = stop.length();
-        (length - pointer % length) as u32
+        let length = self.stop.length();
+        (length - self.pointer % length) as u32
     }
 
-    // The state after some clocks: within the partition to a later place; past its end from the waiting tap on, which is used up.
+    // The state after some clocks: within the partition at a later place; past its end from the waiting tap on, which is used up.
     fn moved(self, count: u32) -> Vram
         ensures { result ≡ clocks count self }
     {
         let through = self.through();
-        let waiting = self.waiting;
         let later = advance(self.pointer, count);
-        if count < through {
-            return self.with_serial(self.loaded, later, waiting);
-        }
-        match waiting {
-            Waiting::None => self.with_serial(self.loaded, later, Waiting::None),
-            Waiting::Tap(tap) => {
-                let past = advance(tap, count - through);
-                self.with_serial(self.loaded, past, Waiting::None)
-            }
+        match self.waiting {
+            Some(tap) if through <= count => Vram {
+                pointer: advance(tap, count - through),
+                waiting: None,
+                ..self
+            },
+            _ => Vram {
+                pointer: later,
+                ..self
+            },
         }
     }
 
-    // A serial clock: the word at the pointer, then the pointer moves.
-    pub fn clock(self, serial: &[u16]) -> Clocked
-        ensures { result ≡ clock_call self serial.now }
+    // A serial clock: the word at the pointer; then the pointer moves.
+    #[tactic(auto, unfolding(crate::specs::Calls::clock_call, crate::specs::Calls::clock_refusal))]
+    pub fn clock(self, serial: &[u16]) -> Result<(Vram, u16), Refusal>
+        ensures { clocked_by self result ≡ clock_call self serial.now }
     {
-        let n = refuse(self.loaded, numbers::NOT_LOADED, numbers::DONE);
-        let n = refuse(serial.len() == 256, numbers::REGISTER_LENGTH, n);
-        let n = refuse(self.ruled(), numbers::STATE_EXCLUDED, n);
-        if n != numbers::DONE {
-            return Clocked {
-                state: self,
-                word: 0,
-                number: n,
-            };
-        }
-        let at = self.pointer as usize;
-        let word = serial[at];
-        let state = self.moved(1);
-        Clocked {
-            state,
-            word,
-            number: numbers::DONE,
-        }
+        refuse(self.ruled(), Refusal::StateExcluded)?;
+        refuse(serial.len() == 256, Refusal::RegisterLength)?;
+        refuse(self.loaded, Refusal::NotLoaded)?;
+        let word = serial[self.pointer as usize];
+        Ok((self.moved(1), word))
     }
 
     // The state after some clocks, 0 to 512, and how many more lead through the end of its partition.
-    pub fn clocks(self, count: u32) -> Moved
-        ensures { result ≡ clocks_call self count }
+    #[tactic(auto, unfolding(crate::specs::Calls::clocks_call, crate::specs::Calls::clocks_refusal))]
+    pub fn clocks(self, count: u32) -> Result<(Vram, u32), Refusal>
+        ensures { moved_by self result ≡ clocks_call self count }
     {
-        let n = refuse(count <= 512, numbers::RUN_OVER, numbers::DONE);
-        let n = refuse((count == 0) | self.loaded, numbers::NOT_LOADED, n);
-        let n = refuse(self.ruled(), numbers::STATE_EXCLUDED, n);
-        if n != numbers::DONE {
-            return Moved {
-                state: self,
-                through: 0,
-                number: n,
-            };
-        }
+        refuse(self.ruled(), Refusal::StateExcluded)?;
+        refuse((count == 0) | self.loaded, Refusal::NotLoaded)?;
+        refuse(count <= 512, Refusal::RunOver)?;
         let state = self.moved(count);
-        let through = state.through();
-        Moved {
-            state,
-            through,
-            number: numbers::DONE,
-        }
+        Ok((state, state.through()))
     }
 }

@@ -1,23 +1,18 @@
 -- `colours_c::linkshoar_colours_write` meets its contract. Assumes nothing.
-use Rattle.std.proofs.Common.{sym, ap, ◌∙◌}
+use Rattle.std.proofs.Common.{sym, ◌∙◌}
 use Rattle.colours.specs.Calls.{write_call}
-use Rattle.colours_c.specs.Calls.{held_excluded, outcome, handed_outcome, held_write}
-use Rattle.colours_c.specs.CallLaws.{taking_excluded, taking_done}
+use Rattle.colours_c.specs.Calls.{held_write}
+use Rattle.colours_c.specs.CallLaws.{written_ok, written_err}
 use Rattle.colours_c.proofs.linkshoar_colours_write.Goals as goal
 
-pub returns-then-lawful : goal.returns-then-lawful
+pub returns-in-Ok : goal.returns-in-Ok
 unfolding held_write
-returns-then-lawful c =
+returns-in-Ok c =
     let a = c.args in
-    rw c.answer.ensures
-    (taking_done (λ s. handed_outcome (write_call s a.table.now a.address a.value)) (outcome (held_excluded a.state) a.table.now)
-    a.state (sym c.lawful.ensures ∙ c.if-lawful.true) c.take.result c.take.ensures _
-    (ap handed_outcome c.write.ensures))
+    written_ok a.state (λ s. write_call s a.table.now a.address a.value) a.table.now _ (sym c.try_from.ensures ∙ c.in-Ok.is) c.of.ensures c.write.ensures
 
-pub returns : goal.returns
+pub returns-in-Err : goal.returns-in-Err
 unfolding held_write
-returns c =
+returns-in-Err c =
     let a = c.args in
-    rw c.excluded.ensures
-    (taking_excluded (λ s. handed_outcome (write_call s a.table.now a.address a.value)) (outcome (held_excluded a.state) a.table.now)
-    a.state (sym c.lawful.ensures ∙ c.if-lawful.false))
+    written_err a.state (λ s. write_call s a.table.now a.address a.value) a.table.now _ (sym c.try_from.ensures ∙ c.in-Err.is) c.of-in-Err.ensures

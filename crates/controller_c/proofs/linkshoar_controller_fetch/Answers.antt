@@ -1,15 +1,21 @@
 -- `controller_c::linkshoar_controller_fetch` meets its contract. Assumes nothing.
-use Rattle.std.proofs.Common.{sym, ◌∙◌}
-use Rattle.controller_c.specs.CallLaws.{fetch_excluded_is, fetch_done}
+use Rattle.std.specs.Prelude.{◌≡◌}
+use Rattle.std.specs.Prelude.Result.{Ok, Err}
+use Rattle.controller.specs.declared.Controller.{Controller}
+use Rattle.controller.specs.Calls.{fetched_by, fetch_call}
+use Rattle.controller_c.specs.CallLaws.{fetch_answered}
 use Rattle.controller_c.proofs.linkshoar_controller_fetch.Goals as goal
 
-pub returns-then-lawful : goal.returns-then-lawful
-returns-then-lawful c =
-    let a = c.args in
-    c.answer_fetch.ensures
-    ∙ fetch_done a.state (sym c.lawful.ensures ∙ c.if-lawful.true) c.take.ensures c.fetch.ensures
+pub returns-in-Ok : goal.returns-in-Ok
+returns-in-Ok c =
+    let answer = Ok (c.in-Ok.after, c.in-Ok.address) in
+    rw c.from.ensures
+    (fetch_answered c.args.state (λ (s : Controller). fetched_by s answer ≡ fetch_call s) c.try_from.result answer c.try_from.ensures
+    c.in-Ok.ensures (λ p. p))
 
-pub returns : goal.returns
-returns c =
-    let a = c.args in
-    c.excluded_fetch.ensures ∙ fetch_excluded_is a.state (sym c.lawful.ensures ∙ c.if-lawful.false)
+pub returns-in-Err : goal.returns-in-Err
+returns-in-Err c =
+    let answer = Err c.in-Err.refusal in
+    rw c.from-in-Err.ensures
+    (fetch_answered c.args.state (λ (s : Controller). fetched_by s answer ≡ fetch_call s) c.try_from.result answer c.try_from.ensures
+    c.in-Err.ensures (λ p. p))

@@ -1,16 +1,23 @@
 -- `host::linkshoar_list_run` meets its contract. Assumes nothing.
-use Rattle.std.proofs.Common.{sym, ◌∙◌}
+use Rattle.std.proofs.Common.{ℕ, ap, ◌∙◌}
 use Rattle.vram.specs.Board.{effect}
+use Rattle.list.specs.Meaning.{ran_by}
+use Rattle.registers.specs.declared.Ran.{Ran}
+use Rattle.registers.specs.Lists.{listed}
+use Rattle.registers.specs.StateLaws.{taken_ok, taken_err}
 use Rattle.registers.specs.ListLaws.{list_excluded, list_done}
 use Rattle.host.proofs.linkshoar_list_run.Goals as goal
 
-pub returns-then-lawful : goal.returns-then-lawful
-returns-then-lawful c =
+pub returns-in-Ok : goal.returns-in-Ok
+returns-in-Ok c =
     let a = c.args in
-    list_done effect a.state (sym c.lawful.ensures ∙ c.if-lawful.true) c.take.result c.take.ensures
-    a.memory.now a.serial.now a.list.now c.run-ran.result c.run-ran.new.memory c.run-ran.new.serial c.run-ran.ensures c.hand_ran.result c.hand_ran.ensures
+    let t = taken_ok a.state c.in-Ok.vram c.in-Ok.ensures in
+    list_done effect a.state t.0 c.in-Ok.vram t.1
+    a.memory.now a.serial.now a.list.now (ran_by c.in-Ok.vram c.run.result) c.run.new.memory c.run.new.serial c.run.ensures c.hand_ran.result c.hand_ran.ensures
 
-pub returns : goal.returns
-returns c =
+pub returns-in-Err : goal.returns-in-Err
+returns-in-Err c =
     let a = c.args in
-    list_excluded effect a.state (sym c.lawful.ensures ∙ c.if-lawful.false) a.memory.now a.serial.now a.list.now
+    let t = taken_err a.state c.in-Err.refusal c.in-Err.ensures in
+    ap (λ (r : Ran). listed r a.memory.now a.serial.now) (c.excluded.ensures ∙ ap (λ (n : ℕ). record { state = a.state; number = n; place = 0 }) t.1)
+    ∙ list_excluded effect a.state t.0 a.memory.now a.serial.now a.list.now

@@ -1,6 +1,6 @@
 -- `list::check` meets its contract: one turn of the loop is one field judged. Assumes nothing.
 use Rattle.std.proofs.Common.{◌≡◌, ◌≤◌, ◌-◌, length}
-use Rattle.list.specs.declared.Open.TheVariants.{None}
+use Rattle.std.specs.Prelude.Option.{None}
 use Rattle.list.specs.Meaning.{judged}
 use Rattle.list.specs.Fields.{fields}
 use Rattle.list.proofs.check.Given as goal

@@ -4,8 +4,8 @@ use Rattle.report.specs.ReportLaws.{told_within}
 use Rattle.play.proofs.main.Goals as goal
 
 pub slice_bounds-text-end : goal.slice_bounds-text-end
-slice_bounds-text-end c = let r = c.report-told in omega (arith, told_within _ _ _ _ r.ensures, r.auto.text)
+slice_bounds-text-end c = let r = c.report in omega (arith, told_within _ _ _ _ r.ensures, c.unwrap_or-bytes.ensures, r.auto.text)
 
 pub slice_bounds-write_all-end : goal.slice_bounds-write_all-end
 slice_bounds-write_all-end c =
-    let r = c.report-told in sym (simp length-take (omega (arith, told_within _ _ _ _ r.ensures, r.auto.text)))
+    let r = c.report in sym (simp length-take (omega (arith, told_within _ _ _ _ r.ensures, c.unwrap_or-bytes.ensures, r.auto.text)))

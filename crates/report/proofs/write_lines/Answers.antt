@@ -3,15 +3,11 @@ use Rattle.std.proofs.Common.{arith}
 use Rattle.report.specs.ReportLaws.{ran_size, ran_few, ran_lines}
 use Rattle.report.proofs.write_lines.Goals as goal
 
-pub overflow_cast-ran : goal.overflow_cast-ran
-overflow_cast-ran c =
-    omega (arith, (ran_few c.args.list.now _ c.fresh.ensures _ _ _ c.run-ran.ensures c.requires.0).1)
-
-pub put_lines-requires : goal.put_lines-requires
-put_lines-requires c =
-    let k = ran_few c.args.list.now _ c.fresh.ensures _ _ _ c.run-ran.ensures c.requires.0 in
-    (k.0, k.1, omega (arith, ran_size c.args.list.now _ c.fresh.ensures _ _ _ c.run-ran.ensures), c.requires.1)
+pub lines-requires : goal.lines-requires
+lines-requires c =
+    let k = ran_few c.args.list.now _ c.fresh.ensures _ _ _ c.run-answer.ensures c.requires.0 in
+    (k.0, k.1, omega (arith, ran_size c.args.list.now _ c.fresh.ensures _ _ _ c.run-answer.ensures), c.requires.1)
 
 pub returns : goal.returns
 returns c =
-    rw (← (ran_lines c.args.list.now _ c.fresh.ensures _ _ _ c.run-ran.ensures)) c.put_lines.ensures
+    rw (← (ran_lines c.args.list.now _ c.fresh.ensures _ _ _ c.run-answer.ensures)) c.lines.ensures

@@ -8,4 +8,4 @@ returns c =
 
 pub returns-then-list-gt4096 : goal.returns-then-list-gt4096
 returns-then-list-gt4096 c =
-    rw (← (text_long _ c.if-list-gt4096.true)) c.put_bytes.ensures
+    rw (← (text_long _ c.if-list-gt4096.true)) c.bytes.ensures

@@ -4,4 +4,4 @@ use Rattle.list.proofs.fields.word_at.Goals as goal
 
 pub returns : goal.returns
 unfolding word
-returns c = rw (c.wide.ensures.0, c.wide-2.ensures.0)
+returns c = rw (c.from.ensures, c.from-2.ensures)

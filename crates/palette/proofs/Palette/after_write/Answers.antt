@@ -1,37 +1,36 @@
 -- `palette::Palette::after_write` meets its contract. Assumes nothing.
-use Rattle.std.proofs.Common.{◌≢◌, arith, ne_eqb}
+use Rattle.std.proofs.Common.{rules}
 use Rattle.palette.specs.Access.{after_write, table_after_write}
 use Rattle.palette.proofs.Palette.after_write.Goals as goal
 
-pub returns-in-0 : goal.returns-in-0
+pub returns-in-0-clause-state : goal.returns-in-0-clause-state
 unfolding after_write table_after_write
-returns-in-0 c = let k = c.in-0.is in record {
-  state = rw k c.addressed.ensures;
-  entry = rw k;
-}
+returns-in-0-clause-state c = search rules
 
-pub returns-in-1 : goal.returns-in-1
+pub returns-in-0-clause-entry : goal.returns-in-0-clause-entry
 unfolding after_write table_after_write
-returns-in-1 c =
-    let k = c.in-1.is in
-    record {
-      state = rw k c.coloured.ensures.state;
-      entry = rw k c.coloured.ensures.entry;
-    }
+returns-in-0-clause-entry c = search rules
 
-pub returns-in-2 : goal.returns-in-2
+pub returns-in-1-clause-state : goal.returns-in-1-clause-state
 unfolding after_write table_after_write
-returns-in-2 c = let k = c.in-2.is in record {
-  state = rw k c.with_mask.ensures;
-  entry = rw k;
-}
+returns-in-1-clause-state c = search rules
 
-pub returns-in_default : goal.returns-in_default
+pub returns-in-1-clause-entry : goal.returns-in-1-clause-entry
 unfolding after_write table_after_write
-returns-in_default c =
-    let select = c.args.select in
-    let zero : select ≢ 0 = omega arith in
-    let one : select ≢ 1 = omega arith in
-    let two : select ≢ 2 = omega arith in
-    let e = rw c.addressed-in_default.ensures at c.taken.ensures in
-    record { state = rw (ne_eqb _ _ zero, ne_eqb _ _ one, ne_eqb _ _ two) e; entry = rw (ne_eqb _ _ one) }
+returns-in-1-clause-entry c = search rules
+
+pub returns-in-2-clause-state : goal.returns-in-2-clause-state
+unfolding after_write table_after_write
+returns-in-2-clause-state c = search rules
+
+pub returns-in-2-clause-entry : goal.returns-in-2-clause-entry
+unfolding after_write table_after_write
+returns-in-2-clause-entry c = search rules
+
+pub returns-in_default-clause-state : goal.returns-in_default-clause-state
+unfolding after_write table_after_write
+returns-in_default-clause-state c = search rules
+
+pub returns-in_default-clause-entry : goal.returns-in_default-clause-entry
+unfolding after_write table_after_write
+returns-in_default-clause-entry c = search rules

@@ -5,16 +5,16 @@ use Rattle.pencil.specs.BitLaws.{bits_start, bits_turn}
 use Rattle.pencil.proofs.block.bits_left.Goals as goal
 
 pub loop-b-init : goal.loop-b-init
-loop-b-init c = (omega arith, sym (bits_start _ _))
+loop-b-init c = sym (bits_start _ _)
 
 pub loop-b-preserved : goal.loop-b-preserved
 loop-b-preserved c =
     let l = c.loop-b in
-    (omega arith, bits_turn _ _ l.left l.b _ l.invariant.1 c.keep_bit-left.ensures)
+    bits_turn _ _ l.left l.b _ l.invariant c.keep_bit-left.ensures
 
 pub returns : goal.returns
 unfolding bits_left
 returns c =
     let l = c.loop-b in
     let e : l.b ≡ 16 = omega arith in
-    l.invariant.1 ∙ ap (bit_by_bit _ _) e
+    l.invariant ∙ ap (bit_by_bit _ _) e

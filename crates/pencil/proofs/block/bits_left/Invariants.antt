@@ -1,10 +1,7 @@
 -- `pencil::block::bits_left` meets its contract: one turn of the loop is one bit. Assumes nothing.
-use Rattle.std.proofs.Common.{◌≡◌, ◌-◌, ◌%◌, ◌≤◌}
+use Rattle.std.proofs.Common.{◌≡◌, ◌%◌}
 use Rattle.pencil.specs.Bits.{bit_by_bit, stays}
 use Rattle.pencil.proofs.block.bits_left.Given as goal
 
 abbrev pub invariant-loop-b : goal.invariant-loop-b
-invariant-loop-b l = (l.b ≤ 16) × (l.left ≡ bit_by_bit (stays l.columns (l.column % 4)) l.mask l.b)
-
-abbrev pub decreases-loop-b : goal.decreases-loop-b
-decreases-loop-b l = 16 - l.b
+invariant-loop-b l = l.left ≡ bit_by_bit (stays l.columns (l.column % 4)) l.mask l.b

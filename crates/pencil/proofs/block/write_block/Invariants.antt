@@ -1,11 +1,8 @@
 -- `pencil::block::write_block` meets its contract: one turn of the loop is one column. Assumes nothing.
-use Rattle.std.proofs.Common.{◌≡◌, ◌-◌, ◌≤◌, length}
+use Rattle.std.proofs.Common.{◌≡◌, length}
 use Rattle.pencil.specs.Memory.{block_written}
 use Rattle.pencil.proofs.block.write_block.Given as goal
 
 abbrev pub invariant-loop-j : goal.invariant-loop-j
 invariant-loop-j l =
-    (l.j ≤ 4) × (length l.memory ≡ length l.initial.memory) × (l.memory ≡ block_written l.initial.memory l.base l.colour l.columns l.mask l.strobes l.j)
-
-abbrev pub decreases-loop-j : goal.decreases-loop-j
-decreases-loop-j l = 4 - l.j
+    (length l.memory ≡ length l.initial.memory) × (l.memory ≡ block_written l.initial.memory l.base l.colour l.columns l.mask l.strobes l.j)

@@ -1,23 +1,17 @@
 -- `pencil::cycles::word_write` meets its contract. Assumes nothing.
-use Rattle.std.proofs.Common.{ap, ◌∙◌, List, ℕ, ◌+◌, ◌*◌, length}
-use Rattle.numbers.specs.RefuseLaws.{refused_is, done_is}
-use Rattle.refusals.specs.RefusalLaws.{word_within}
+use Rattle.std.proofs.Common.{refl, sym, ap, ◌∙◌, ℕ, ◌+◌, ◌*◌, length}
+use Rattle.refusals.specs.RefusalLaws.{write_zero, word_within}
+use Rattle.vram.proofs.Arms.{own_decides, wrote}
 use Rattle.pencil.specs.Memory.{word_written}
-use Rattle.pencil.proofs.Turns.{write_placed}
 use Rattle.pencil.proofs.cycles.word_write.Goals as goal
-
-pub returns-then-n-ne-DONE : goal.returns-then-n-ne-DONE
-returns-then-n-ne-DONE c = refused_is (λ _ (m : List ℕ). m) _ _ _ _ c.write_number-n.ensures c.if-n-ne-DONE.true
 
 pub write_word-requires : goal.write_word-requires
 write_word-requires c =
     let a = c.args in
-    word_within (length a.memory.now) a.row a.column
-    (write_placed c.write_number-n.result a.state (length a.memory.now) a.serial_words a.row a.column a.masking
-    a.mask a.strobes c.write_number-n.ensures c.if-n-ne-DONE.false)
+    word_within (length a.memory.now) a.row a.column (write_zero _ a.row a.column a.masking a.mask a.strobes (sym c.in_ok-write_refusal.ensures))
 
 pub returns : goal.returns
 returns c =
     let a = c.args in
-    done_is (λ _ (m : List ℕ). m) _ _ _ _ _ c.write_number-n.ensures c.if-n-ne-DONE.false
+    wrote (own_decides 0 _ _ c.in_ok-given.ensures refl c.in_ok-write_refusal.ensures)
     (c.write_word.ensures ∙ ap (λ (n : ℕ). word_written a.memory.now (512 * a.row + a.column) a.word n a.strobes) c.in_force.ensures)

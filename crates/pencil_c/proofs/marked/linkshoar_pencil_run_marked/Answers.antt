@@ -1,16 +1,25 @@
 -- `pencil_c::marked::linkshoar_pencil_run_marked` meets its contract. Assumes nothing.
-use Rattle.std.proofs.Common.{sym, ◌∙◌}
-use Rattle.pencil.specs.Pencil.{pencil}
+use Rattle.std.specs.Prelude.{ℕ}
+use Rattle.std.proofs.Common.{ap, ◌∙◌}
+use Rattle.list.specs.Meaning.{ran_by}
+use Rattle.registers.specs.declared.Ran.{Ran}
+use Rattle.marks_c.specs.Calls.{listed}
+use Rattle.registers.specs.StateLaws.{taken_ok, taken_err}
 use Rattle.marks_c.specs.CallLaws.{marked_excluded, marked_done}
+use Rattle.pencil.specs.Pencil.{pencil}
 use Rattle.pencil_c.proofs.marked.linkshoar_pencil_run_marked.Goals as goal
 
-pub returns-then-lawful : goal.returns-then-lawful
-returns-then-lawful c =
+pub returns-in-Ok : goal.returns-in-Ok
+returns-in-Ok c =
     let a = c.args in
-    marked_done pencil a.state a.memory.now a.serial.now a.marks.now a.list.now (sym c.lawful.ensures ∙ c.if-lawful.true) c.take.result c.take.ensures
-    c.run_marked-ran.result c.run_marked-ran.new.memory c.run_marked-ran.new.serial c.run_marked-ran.new.marks c.run_marked-ran.ensures c.hand_ran.result c.hand_ran.ensures
+    let p = taken_ok a.state c.in-Ok.vram c.in-Ok.ensures in
+    marked_done pencil a.state a.memory.now a.serial.now a.marks.now a.list.now p.0 c.in-Ok.vram p.1 (ran_by c.in-Ok.vram c.run_marked.result)
+    c.run_marked.new.memory c.run_marked.new.serial c.run_marked.new.marks c.run_marked.ensures c.hand_ran.result c.hand_ran.ensures
 
-pub returns : goal.returns
-returns c =
+pub returns-in-Err : goal.returns-in-Err
+returns-in-Err c =
     let a = c.args in
-    marked_excluded pencil a.state a.memory.now a.serial.now a.marks.now a.list.now (sym c.lawful.ensures ∙ c.if-lawful.false)
+    let p = taken_err a.state c.in-Err.refusal c.in-Err.ensures in
+    ap (λ (r : Ran). listed r a.memory.now a.serial.now a.marks.now)
+    (c.excluded.ensures ∙ ap (λ (n : ℕ). record { state = a.state; number = n; place = 0 }) p.1)
+    ∙ marked_excluded pencil a.state a.memory.now a.serial.now a.marks.now a.list.now p.0

@@ -1,16 +1,25 @@
 -- `pencil_c::run::linkshoar_pencil_run` meets its contract. Assumes nothing.
-use Rattle.std.proofs.Common.{sym, ◌∙◌}
-use Rattle.pencil.specs.Pencil.{pencil}
+use Rattle.std.specs.Prelude.{ℕ}
+use Rattle.std.proofs.Common.{ap, ◌∙◌}
+use Rattle.list.specs.Meaning.{ran_by}
+use Rattle.registers.specs.declared.Ran.{Ran}
+use Rattle.registers.specs.Lists.{listed}
 use Rattle.registers.specs.ListLaws.{list_excluded, list_done}
+use Rattle.registers.specs.StateLaws.{taken_ok, taken_err}
+use Rattle.pencil.specs.Pencil.{pencil}
 use Rattle.pencil_c.proofs.run.linkshoar_pencil_run.Goals as goal
 
-pub returns-then-lawful : goal.returns-then-lawful
-returns-then-lawful c =
+pub returns-in-Ok : goal.returns-in-Ok
+returns-in-Ok c =
     let a = c.args in
-    list_done pencil a.state (sym c.lawful.ensures ∙ c.if-lawful.true) c.take.result c.take.ensures
-    a.memory.now a.serial.now a.list.now c.run-ran.result c.run-ran.new.memory c.run-ran.new.serial c.run-ran.ensures c.hand_ran.result c.hand_ran.ensures
+    let p = taken_ok a.state c.in-Ok.vram c.in-Ok.ensures in
+    list_done pencil a.state p.0 c.in-Ok.vram p.1 a.memory.now a.serial.now a.list.now (ran_by c.in-Ok.vram c.run.result)
+    c.run.new.memory c.run.new.serial c.run.ensures c.hand_ran.result c.hand_ran.ensures
 
-pub returns : goal.returns
-returns c =
+pub returns-in-Err : goal.returns-in-Err
+returns-in-Err c =
     let a = c.args in
-    list_excluded pencil a.state (sym c.lawful.ensures ∙ c.if-lawful.false) a.memory.now a.serial.now a.list.now
+    let p = taken_err a.state c.in-Err.refusal c.in-Err.ensures in
+    ap (λ (r : Ran). listed r a.memory.now a.serial.now)
+    (c.excluded.ensures ∙ ap (λ (n : ℕ). record { state = a.state; number = n; place = 0 }) p.1)
+    ∙ list_excluded pencil a.state p.0 a.memory.now a.serial.now a.list.now

@@ -8,12 +8,12 @@ returns-then-not-zeros_from c =
     let z = c.zeros_from.ensures in
     (sym (sound_spare _ (sym z.0 ∙ c.if-not-zeros_from.true)), z.1)
 
-pub returns-then-p-eq-DONE : goal.returns-then-p-eq-DONE
-returns-then-p-eq-DONE c =
+pub returns-then-p-eq0 : goal.returns-then-p-eq0
+returns-then-p-eq0 c =
     let z = c.zeros_from.ensures in
-    (sound_going _ (sym z.0 ∙ c.if-not-zeros_from.false) c.if-p-eq-DONE.true _ c.going.ensures, z.1)
+    (sound_going _ (sym z.0 ∙ c.if-not-zeros_from.false) c.if-p-eq0.true _ c.going.ensures, z.1)
 
 pub returns : goal.returns
 returns c =
     let z = c.zeros_from.ensures in
-    (sound_stopped _ (sym z.0 ∙ c.if-not-zeros_from.false) c.if-p-eq-DONE.false z.1 _ c.stopped.ensures, z.1)
+    (sound_stopped _ (sym z.0 ∙ c.if-not-zeros_from.false) c.if-p-eq0.false z.1 _ c.stopped.ensures, z.1)

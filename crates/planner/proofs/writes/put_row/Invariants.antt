@@ -1,18 +1,8 @@
--- `planner::writes::put_row` meets its contract. The invariant: `o` and `place` stand after i writes, and those are stored.
--- Assumes nothing.
-use Rattle.std.proofs.Common.{◌≡◌, ◌+◌, ◌-◌, ◌*◌, ◌≤◌, length}
+-- `planner::writes::put_row` meets its contract. The invariant: i writes are stored. Assumes nothing.
+use Rattle.std.proofs.Common.{◌≡◌}
 use lib.Seq.{sets}
 use Rattle.planner.specs.Bytes.{row_bytes}
 use Rattle.planner.proofs.writes.put_row.Given as goal
 
 abbrev pub invariant-loop-i : goal.invariant-loop-i
-invariant-loop-i l =
-    (l.i ≤ l.n)
-    × (l.o ≡ l.at + l.i * 13)
-    × (l.place ≤ l.first + 4 * l.i)
-    × (l.place ≡ l.first + l.step * l.i)
-    × (length l.list ≡ length l.initial.list)
-    × (l.list ≡ sets l.initial.list l.at (row_bytes l.tag l.first l.step l.value l.mask l.i))
-
-abbrev pub decreases-loop-i : goal.decreases-loop-i
-decreases-loop-i l = l.n - l.i
+invariant-loop-i l = l.list ≡ sets l.initial.list l.at (row_bytes l.tag l.first l.step l.value l.mask l.i)

@@ -1,23 +1,15 @@
 -- `vram::Vram::load_colour` meets its contract. Assumes nothing.
-use Rattle.std.proofs.Common.{ap, ◌∙◌}
-use Rattle.numbers.specs.RefuseLaws.{refused_is, done_is}
+use Rattle.std.proofs.Common.{ap, ◌∙◌, refl}
+use Rattle.numbers.specs.RefuseLaws.{done_is}
 use Rattle.words.specs.Word.{covers}
 use Rattle.words.specs.WordLaws.{merged_by_mask}
 use Rattle.vram.specs.State.{with_colour}
 use Rattle.vram.specs.Calls.{answered}
-use Rattle.vram.proofs.Arms.{given_refuses, own_decides}
+use Rattle.vram.proofs.Arms.{own_decides}
 use Rattle.vram.proofs.Vram.load_colour.Goals as goal
-
-pub returns-then-n-ne-DONE : goal.returns-then-n-ne-DONE
-returns-then-n-ne-DONE c = refused_is answered _ _ _ _ (given_refuses _ _ _ c.given-n.ensures c.if-n-ne-DONE.true) c.if-n-ne-DONE.true
-
-pub returns-then-n-ne-DONE-2 : goal.returns-then-n-ne-DONE-2
-returns-then-n-ne-DONE-2 c =
-    refused_is answered _ _ _ _ (own_decides _ _ _ c.given-n.ensures c.if-n-ne-DONE.false c.load_refusal-n.ensures) c.if-n-ne-DONE-2.true
 
 pub returns : goal.returns
 returns c =
     let a = c.args in
-    done_is answered _ _ _ _ _ (own_decides _ _ _ c.given-n.ensures c.if-n-ne-DONE.false c.load_refusal-n.ensures) c.if-n-ne-DONE-2.false
-    (c.with_colour-state.ensures
-    ∙ ap (with_colour a.self) (c.merge-colour.ensures ∙ merged_by_mask _ _ _ (covers a.strobes) c.strobe_mask.ensures))
+    done_is answered 0 _ _ _ _ (own_decides 0 _ _ c.in_ok-given.ensures refl c.in_ok-load_refusal.ensures) refl
+    (ap (with_colour a.self) (c.merge-colour.ensures ∙ merged_by_mask _ _ _ (covers a.strobes) c.strobe_mask.ensures))

@@ -1,7 +1,0 @@
--- `bench::all_rows` meets its contract: the zeros are counted by a law, not one by one. Assumes nothing.
-use Rattle.std.proofs.Common.{sym, ℕ}
-use lib.ListN.{length-replicate}
-use Rattle.bench.proofs.all_rows.Goals as goal
-
-pub returns : goal.returns
-returns c = sym (length-replicate {A = ℕ} 262144 0)

@@ -1,5 +1,0 @@
--- `colours_c::answers::answer` meets its contract. Assumes nothing.
-use Rattle.colours_c.proofs.answers.answer.Goals as goal
-
-pub returns : goal.returns
-returns c = rw c.hand.ensures

@@ -1,5 +1,0 @@
--- `colours_c::linkshoar_colours_read_high` meets its contract. Assumes nothing.
-use Rattle.colours_c.proofs.linkshoar_colours_read_high.Goals as goal
-
-pub returns : goal.returns
-returns c = c.read_high.ensures
