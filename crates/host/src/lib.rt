@@ -221,10 +221,7 @@ pub fn linkshoar_panel_run_six(
 pub fn linkshoar_palette_write(state: Palette, table: &mut [u8], select: u32, value: u8) -> Accessed
     ensures { accessed_outcome result table.new ≡ write_call state table.old select value }
 {
-    Accessed::of(
-        state,
-        state.write(table, select, value).map(|left| (left, 0)),
-    )
+    Accessed::of(state, state.write(table, select, value))
 }
 
 // A palette read.

@@ -95,9 +95,15 @@ pub fn check(list: &[u8], rows: usize, loaded: bool) -> Result<(), Refused>
     let mut rest = list;
     let mut made = loaded;
     let mut left = None;
-    while !rest.is_empty() {
+    let bad = loop {
+        if rest.is_empty() {
+            break Ok(());
+        }
         let place = (list.len() - rest.len()) as u64;
-        judge_at(rest, rows, made, place)?;
+        // Document 01 names this form: the loop yields the first refused field's number and offset by `break`.
+        if let Err(refused) = judge_at(rest, rows, made, place) {
+            break Err(refused);
+        }
         let tag = rest[0];
         // Writes and colour loads, of which fills are made, leave both as they are.
         if 3 < tag {
@@ -105,8 +111,8 @@ pub fn check(list: &[u8], rows: usize, loaded: bool) -> Result<(), Refused>
             left = opens(tag, place, left);
         }
         rest = &rest[3 + body_length(tag)..];
-    }
-    left_behind(left)
+    };
+    bad.and(left_behind(left))
 }
 
 // A list is checked whole, then run in order. A refusal changes nothing.

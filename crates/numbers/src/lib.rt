@@ -60,3 +60,10 @@ pub fn refuse(holds: bool, refusal: Refusal) -> Result<(), Refusal>
 {
     if holds { Ok(()) } else { Err(refusal) }
 }
+
+// The same of numbers, whatever they are: the number where the test fails; where it holds, what the later tests say.
+pub fn lowest(holds: bool, number: u32, later: u32) -> u32
+    ensures { result ≡ refuse holds number later }
+{
+    if holds { later } else { number }
+}

@@ -18,7 +18,7 @@ pub ruled_once : Determines ruled.signature (λ M 𝓤. ruled.clauses {M = M} {�
 ruled_once = by_result refl (λ κs a v w. refl)
 
 pub write_once : Determines write.signature (λ M 𝓤. write.clauses {M = M} {𝓤 = 𝓤})
-write_once = by_outcome refl (λ κs a o. (answer_of o.answer.number o.answer.state, (tt, (o.table, (tt, (tt, tt)))))) (λ κs a x. ap (λ r. (r, x.1)) (answer_is a.0 x.0))
+write_once = by_outcome refl (λ κs a o. (answer_of o.answer.number (o.answer.state, o.answer.byte), (tt, (o.table, (tt, (tt, tt)))))) (λ κs a x. ap (λ r. (r, x.1)) (answer_is (a.0, 0) x.0))
 
 pub read_once : Determines read.signature (λ M 𝓤. read.clauses {M = M} {𝓤 = 𝓤})
 read_once = by_outcome refl (λ κs a o. (answer_of o.number (o.state, o.byte), (tt, (tt, (tt, tt))))) (λ κs a x. ap (λ r. (r, x.1)) (answer_is (a.0, 0) x.0))

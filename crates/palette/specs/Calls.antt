@@ -11,12 +11,9 @@ use Rattle.palette.specs.Access.{after_write, table_after_write, byte_read, afte
 abbrev pub accessed : Palette → ℕ → ℕ → Accessed
 accessed p byte number = record { state = p; byte = byte; number = number }
 
--- what an access comes to, by its answer: a write answers no byte, so it is 0
+-- what an access comes to, by its answer
 abbrev pub accessed_by : Palette → Result (Palette × ℕ) Refusal → Accessed
 accessed_by before answer = let left = left_by (before, 0) answer in accessed left.0 left.1 (given_back answer)
-
-abbrev pub written_by : Palette → Result Palette Refusal → Accessed
-written_by before answer = accessed (left_by before answer) 0 (given_back answer)
 
 -- 1 a state the rules exclude, 3 palette not 768 bytes, 11 a select over the last one
 unfoldable pub access_refusal : ℕ → Palette → ℕ → ℕ → ℕ

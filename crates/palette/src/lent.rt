@@ -22,7 +22,7 @@ pub fn linkshoar_palette_write_lent(
     ensures { outcome (accessed state.new 0 result) table.new ≡ write_call state.old table.old select value }
 {
     match state.write(table, select, value) {
-        Ok(left) => {
+        Ok((left, _)) => {
             *state = left;
             0
         }

@@ -8,7 +8,7 @@
 ghost use Rattle.std.specs.Prelude.{◌≡◌};
 ghost use Rattle.numbers.specs.Refusal.{given_back};
 ghost use Rattle.palette.specs.State.{fresh};
-ghost use Rattle.palette.specs.Calls.{access_refusal, outcome, written_by, accessed_by, write_call, read_call};
+ghost use Rattle.palette.specs.Calls.{access_refusal, outcome, accessed_by, write_call, read_call};
 
 use numbers::{Refusal, refuse};
 
@@ -64,12 +64,13 @@ impl Palette {
     }
 
     // A write, of select 0 to 3. A select stays a number, since any other is refused with 11: an enum would ask more of callers.
-    pub fn write(self, table: &mut [u8], select: u32, value: u8) -> Result<Palette, Refusal>
-        ensures { outcome (written_by self result) table.new ≡ write_call self table.old select value }
+    // The byte is 0: document 01 names the state and a byte as what an access answers.
+    pub fn write(self, table: &mut [u8], select: u32, value: u8) -> Result<(Palette, u8), Refusal>
+        ensures { outcome (accessed_by self result) table.new ≡ write_call self table.old select value }
     {
         self.access_refusal(3, table.len(), select)?;
         let table: &mut Table = table.as_mut_array().unwrap();
-        Ok(self.after_write(table, select, value))
+        Ok((self.after_write(table, select, value), 0))
     }
 
     // A read, of select 0 to 2. The byte is the one from before the access.

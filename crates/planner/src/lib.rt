@@ -164,6 +164,10 @@ impl Fill {
     {
         let shape = self.shape()?;
         let counts = shape.counts();
+        // At once: tested with the others, a fill with nothing to paint took a quarter more instructions.
+        if let Shape::Nothing = shape {
+            return Ok(counts);
+        }
         refuse((counts.bytes as usize) <= list.len(), Refusal::BufferShort)?;
         match shape {
             Shape::Nothing => {}

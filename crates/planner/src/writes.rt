@@ -60,15 +60,13 @@ pub(crate) fn put_row(
     requires { (at + 13 * n ≤ length list.old) × (first ≤ 33554432) × (step ≤ 4) × (n ≤ 512) }
     ensures { list.new ≡ sets list.old at (row_bytes tag first step value mask n) }
 {
-    for i in 0..n {
-        put_write(
-            list,
-            at + 13 * (i as usize),
-            tag,
-            first + step * i,
-            value,
-            mask,
-        );
+    // Places by sums, and no product by the step: a small controller has no multiply (DECISIONS, "Products in the planner").
+    let mut o = at;
+    let mut place = first;
+    for _i in 0..n {
+        put_write(list, o, tag, place, value, mask);
+        o += 13;
+        place += step;
     }
 }
 

@@ -3,8 +3,8 @@ use Rattle.std.specs.Prelude.{ℕ, Bool, not, ◌&&◌, ◌||◌, cond, eqb, leb
 use Rattle.words.specs.Bit.{digit}
 use Rattle.refusals.specs.Refusal.{partition_ok}
 use Rattle.vram.specs.declared.Vram.{Vram}
-use Rattle.std.specs.Prelude.{Option}
-use Rattle.std.specs.Prelude.Option.{None, Some}
+use Rattle.vram.specs.declared.Waiting.{Waiting}
+use Rattle.vram.specs.declared.Waiting.TheVariants.{None, Tap}
 use Rattle.vram.specs.State.{stop_length, stop_of}
 use Rattle.list.specs.Meaning.{Bad}
 use Rattle.list.specs.Meaning.{Ran as ListRan}
@@ -17,8 +17,8 @@ unfoldable pub lawful : Registers → Bool
 lawful s =
     (((leb s.persistent 1 && leb s.loaded 1) && leb s.waiting 1) && (eqb s.waiting 1 || eqb s.tap 0)) && partition_ok s.stop
 
-abbrev pub waiting_of : ℕ → ℕ → Option ℕ
-waiting_of waiting tap = cond (eqb waiting 0) None (Some tap)
+abbrev pub waiting_of : ℕ → ℕ → Waiting
+waiting_of waiting tap = cond (eqb waiting 0) None (Tap tap)
 
 unfoldable pub taken : Registers → Vram
 taken s =
@@ -46,9 +46,9 @@ handed_with v waiting tap =
       stop = stop_length v.stop;
     }
 
-abbrev pub handed_by : Option ℕ → Vram → Registers
+abbrev pub handed_by : Waiting → Vram → Registers
 handed_by None v = handed_with v 0 0
-handed_by (Some tap) v = handed_with v 1 tap
+handed_by (Tap tap) v = handed_with v 1 tap
 
 unfoldable pub handed : Vram → Registers
 handed v = handed_by v.waiting v

@@ -13,9 +13,10 @@ use Rattle.words.specs.Bit.{digit}
 use Rattle.words.specs.BitLaws.{yes_or_no, digit_yes, digit_small}
 use Rattle.refusals.specs.Refusal.{partition_ok}
 use Rattle.vram.specs.declared.Vram.{Vram}
-use Rattle.std.specs.Prelude.{Option, Result}
+use Rattle.std.specs.Prelude.{Result}
+use Rattle.vram.specs.declared.Waiting.{Waiting}
 use Rattle.std.specs.Prelude.Result.{Ok, Err}
-use Rattle.std.specs.Prelude.Option.{None, Some}
+use Rattle.vram.specs.declared.Waiting.TheVariants.{None, Tap}
 use Rattle.vram.specs.State.{stop_length, stop_of}
 use Rattle.vram.specs.StopLaws.{stop_length_of, length_stop, length_ok}
 use Rattle.registers.specs.declared.Registers.{Registers}
@@ -52,7 +53,7 @@ handed_taken s e = go (eqb s.waiting 0) refl
     n : stop_length (stop_of s.stop) ≡ s.stop
     n = stop_length_of s.stop flags.4
 
-    go : (t : Bool) → eqb s.waiting 0 ≡ t → handed_by (cond t None (Some s.tap)) (taken s) ≡ s
+    go : (t : Bool) → eqb s.waiting 0 ≡ t → handed_by (cond t None (Tap s.tap)) (taken s) ≡ s
     go true q =
         let z : s.waiting ≡ 0 = eqb-true s.waiting 0 q in
         rw (p, l, n) (ap₂ (registers s.persistent s.loaded) (sym z) (sym (last (eqb s.waiting 1) refl z flags.3)))
@@ -66,21 +67,21 @@ pub taken_handed : (v : Vram) → taken (handed v) ≡ v
 unfolding taken handed
 taken_handed v = go v.waiting
   where
-    awaiting : Option ℕ → Vram
+    awaiting : Waiting → Vram
     awaiting w =
         record { colour = v.colour; mask = v.mask; persistent = v.persistent; loaded = v.loaded; pointer = v.pointer; waiting = w; stop = v.stop }
 
-    go : (w : Option ℕ) → taken (handed_by w v) ≡ awaiting w
+    go : (w : Waiting) → taken (handed_by w v) ≡ awaiting w
     go None = rw (digit_yes v.persistent, digit_yes v.loaded, length_stop v.stop)
-    go (Some tap) = rw (digit_yes v.persistent, digit_yes v.loaded, length_stop v.stop)
+    go (Tap tap) = rw (digit_yes v.persistent, digit_yes v.loaded, length_stop v.stop)
 
 pub handed_lawful : (v : Vram) → lawful (handed v) ≡ true
 unfolding lawful handed
 handed_lawful v = go v.waiting
   where
-    go : (w : Option ℕ) → lawful (handed_by w v) ≡ true
+    go : (w : Waiting) → lawful (handed_by w v) ≡ true
     go None = rw (digit_small v.persistent, digit_small v.loaded) (length_ok v.stop)
-    go (Some tap) = rw (digit_small v.persistent, digit_small v.loaded) (length_ok v.stop)
+    go (Tap tap) = rw (digit_small v.persistent, digit_small v.loaded) (length_ok v.stop)
 
 -- ---- the state taken from C, or 1
 
@@ -143,9 +144,9 @@ pub handed_plain : (v : Vram) → v.persistent ≡ false → (handed v).persiste
 unfolding handed
 handed_plain v e = go v.waiting ∙ ap digit e
   where
-    go : (w : Option ℕ) → (handed_by w v).persistent ≡ digit v.persistent
+    go : (w : Waiting) → (handed_by w v).persistent ≡ digit v.persistent
     go None = refl
-    go (Some tap) = refl
+    go (Tap tap) = refl
 
 taken_plain : (s : Registers) → s.persistent ≡ 0 → (taken s).persistent ≡ false
 unfolding taken

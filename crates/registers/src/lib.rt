@@ -6,13 +6,13 @@ ghost use Rattle.std.specs.Prelude.{◌≡◌};
 ghost use Rattle.std.specs.Prelude.Result.{Ok, Err};
 ghost use Rattle.numbers.specs.declared.Refusal.TheVariants.{StateExcluded};
 ghost use Rattle.numbers.specs.Refusal.{number_of};
-ghost use Rattle.list.specs.Meaning.{ran_by};
-ghost use Rattle.registers.specs.State.{lawful, waiting_of, taken, taking, handed, handed_ran};
+ghost use Rattle.list.specs.Meaning.{bad, ran_by};
+ghost use Rattle.registers.specs.State.{lawful, waiting_of, taken, taking, handed, handed_answer, handed_ran};
 
 use list::Refused;
 use numbers::{Refusal, refuse};
 use refusals::partition_ok;
-use vram::{Stop, Vram};
+use vram::{Stop, Vram, Waiting};
 
 // The registers. waiting: 0 none, 1 tap. stop: the length of a partition.
 #[repr(C)]
@@ -50,10 +50,14 @@ pub fn lawful(state: Registers) -> bool
         & partition_ok(state.stop)
 }
 
-fn waiting_of(waiting: u8, tap: u8) -> Option<u8>
+fn waiting_of(waiting: u8, tap: u8) -> Waiting
     ensures { result ≡ waiting_of waiting tap }
 {
-    if waiting == 0 { None } else { Some(tap) }
+    if waiting == 0 {
+        Waiting::None
+    } else {
+        Waiting::Tap(tap)
+    }
 }
 
 // The state as `vram` has it. Whoever calls this has asked `lawful`; other bytes are taken for some state all the same.
@@ -90,8 +94,8 @@ pub fn hand(state: Vram) -> Registers
     ensures { result ≡ handed state }
 {
     let (waiting, tap) = match state.waiting {
-        None => (0, 0),
-        Some(tap) => (1, tap),
+        Waiting::None => (0, 0),
+        Waiting::Tap(tap) => (1, tap),
     };
     Registers {
         colour: state.colour,
@@ -105,21 +109,24 @@ pub fn hand(state: Vram) -> Registers
     }
 }
 
+// An answer to a list: any state, number and place.
+pub fn hand_answer(state: Vram, number: u32, place: u64) -> Ran
+    ensures { result ≡ handed_answer (bad number place) state }
+{
+    Ran {
+        state: hand(state),
+        number,
+        place,
+    }
+}
+
 // The answer to a list, of the state before it.
 pub fn hand_ran(before: Vram, answer: Result<Vram, Refused>) -> Ran
     ensures { result ≡ handed_ran (ran_by before answer) }
 {
     match answer {
-        Ok(state) => Ran {
-            state: hand(state),
-            number: 0,
-            place: 0,
-        },
-        Err(refused) => Ran {
-            state: hand(before),
-            number: u32::from(refused.refusal),
-            place: refused.place,
-        },
+        Ok(state) => hand_answer(state, 0, 0),
+        Err(refused) => hand_answer(before, u32::from(refused.refusal), refused.place),
     }
 }
 

@@ -4,8 +4,8 @@ use Rattle.std.specs.Prelude.{◌≡◌, ℕ, zero, suc, ◌+◌, ◌%◌, ◌<�
 use Rattle.std.proofs.Common.{ap, ◌∙◌, arith, eqb-true, eq-eqb, ne_eqb}
 use Rattle.std.proofs.lemmas.Bool.{eqb-false}
 use Rattle.vram.specs.declared.Vram.{Vram}
-use Rattle.std.specs.Prelude.{Option}
-use Rattle.std.specs.Prelude.Option.{None, Some}
+use Rattle.vram.specs.declared.Waiting.{Waiting}
+use Rattle.vram.specs.declared.Waiting.TheVariants.{None, Tap}
 use Rattle.vram.specs.declared.Stop.TheVariants.{Every128}
 use Rattle.vram.specs.Serial.{at, after, clocked_on, clock_in, clocks_in, length_of, clock, clocks}
 use Rattle.vram.proofs.RuleLaws.{Places, clock_places}
@@ -15,9 +15,9 @@ use Rattle.vram.proofs.RuleLaws.{Places, clock_places}
 abbrev pub onward : ℕ → ℕ
 onward pointer = cond (pointer == 255) 0 (pointer + 1)
 
-abbrev pub half_clocked_on : Option ℕ → Vram → Vram
+abbrev pub half_clocked_on : Waiting → Vram → Vram
 half_clocked_on None s = at s (onward s.pointer) None
-half_clocked_on (Some tap) s = cond (s.pointer == 127 || s.pointer == 255) (at s tap None) (at s (onward s.pointer) (Some tap))
+half_clocked_on (Tap tap) s = cond (s.pointer == 127 || s.pointer == 255) (at s tap None) (at s (onward s.pointer) (Tap tap))
 
 unfoldable pub half_clock : Vram → Vram
 half_clock s = half_clocked_on s.waiting s
@@ -52,9 +52,9 @@ half_clock_is : (s : Vram) → s.pointer < 256 → clock_in 128 s ≡ half_clock
 unfolding clock_in half_clock
 half_clock_is s p = go s.waiting
   where
-    go : (w : Option ℕ) → clocked_on 128 w s ≡ half_clocked_on w s
+    go : (w : Waiting) → clocked_on 128 w s ≡ half_clocked_on w s
     go None = rw (onward_is s.pointer p)
-    go (Some tap) = rw (onward_is s.pointer p, last_places s.pointer p)
+    go (Tap tap) = rw (onward_is s.pointer p, last_places s.pointer p)
 
 half_clocks_is : (k : ℕ) (s : Vram) → Places s → clocks_in 128 k s ≡ half_clocks k s
 unfolding clocks_in half_clocks

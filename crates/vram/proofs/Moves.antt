@@ -1,7 +1,7 @@
 -- How the code moves a state, by the cases that it tests, is a run of clocks. Assumes nothing.
 use Rattle.std.proofs.Common.{◌≡◌, ℕ, ◌+◌, ◌-◌, ◌%◌, ◌<◌, ◌≤◌, sym, ap, ◌∙◌, mod-eq_of_lt, arith}
 use Rattle.vram.specs.declared.Vram.{Vram}
-use Rattle.std.specs.Prelude.Option.{None, Some}
+use Rattle.vram.specs.declared.Waiting.TheVariants.{None, Tap}
 use Rattle.vram.specs.Serial.{at, after, length_of, through, clocks}
 use Rattle.vram.specs.Partition.{partition, within}
 use Rattle.vram.specs.SerialLaws.{through_within, clocks_in_within, clocks_in_none, clocks_in_through}
@@ -20,5 +20,5 @@ module _ (s : Vram) (k : ℕ) (p : s.pointer < 256) where
   goes_round w = sym (clocks_in_none (length_of s) k s p w)
 
   -- past its end with a tap waiting
-  pub jumps : (tap : ℕ) → tap < 256 → s.waiting ≡ Some tap → through s ≤ k → at s (after tap (k - through s)) None ≡ clocks k s
+  pub jumps : (tap : ℕ) → tap < 256 → s.waiting ≡ Tap tap → through s ≤ k → at s (after tap (k - through s)) None ≡ clocks k s
   jumps tap t w h = sym (clocks_in_through (length_of s) (partition s) tap t k s p w h)

@@ -5,8 +5,8 @@ use Rattle.std.proofs.Common.{sym, ap, ◌∙◌, ⊎_elim, arith}
 use Rattle.std.proofs.Math.Nat.{mod-eq_of_lt}
 use borrow.Author.Tests.{eqb-false}
 use Rattle.vram.specs.declared.Vram.{Vram}
-use Rattle.std.specs.Prelude.{Option}
-use Rattle.std.specs.Prelude.Option.{None, Some}
+use Rattle.vram.specs.declared.Waiting.{Waiting}
+use Rattle.vram.specs.declared.Waiting.TheVariants.{None, Tap}
 use Rattle.vram.specs.declared.Cycle.{Cycle}
 use Rattle.vram.specs.State.{with_colour, with_mask, waiting_ok, ruled}
 use Rattle.vram.specs.Memory.{Words, puts}
@@ -107,12 +107,12 @@ module _ (n : ℕ) (P : Partition n) where
   unfolding clock_in ruled
   clock_ruled s p h = go s.waiting h
     where
-      go : (w : Option ℕ) → waiting_ok w s.loaded s.pointer ≡ true → waiting_ok (clocked_on n w s).waiting (clocked_on n w s).loaded (clocked_on n w s).pointer ≡ true
+      go : (w : Waiting) → waiting_ok w s.loaded s.pointer ≡ true → waiting_ok (clocked_on n w s).waiting (clocked_on n w s).loaded (clocked_on n w s).pointer ≡ true
       go None h = refl
-      go (Some tap) h = last (s.pointer % n == n - 1) refl
+      go (Tap tap) h = last (s.pointer % n == n - 1) refl
         where
           last : (u : Bool) → (s.pointer % n == n - 1) ≡ u
-              → waiting_ok (clocked_on n (Some tap) s).waiting (clocked_on n (Some tap) s).loaded (clocked_on n (Some tap) s).pointer ≡ true
+              → waiting_ok (clocked_on n (Tap tap) s).waiting (clocked_on n (Tap tap) s).loaded (clocked_on n (Tap tap) s).pointer ≡ true
           last true q = rw q
           last false q =
               let l = within P s.pointer in
@@ -124,17 +124,17 @@ module _ (n : ℕ) (P : Partition n) where
 
 pub record Places (s : Vram) : Type 0 where
   pub place : s.pointer < 256
-  pub tap : (t : ℕ) → s.waiting ≡ Some t → t < 256
+  pub tap : (t : ℕ) → s.waiting ≡ Tap t → t < 256
 
-none_or_tap : (t : ℕ) → None ≢ Some t
+none_or_tap : (t : ℕ) → None ≢ Tap t
 none_or_tap t e = let z : ◌≡◌ {A = ℕ} 0 1 = cc in omega arith
 
 module _ (n : ℕ) where
-  clocked_on_places : (s : Vram) → Places s → (w : Option ℕ) → s.waiting ≡ w → Places (clocked_on n w s)
+  clocked_on_places : (s : Vram) → Places s → (w : Waiting) → s.waiting ≡ w → Places (clocked_on n w s)
   clocked_on_places s p None e = record { place = omega arith; tap = λ t f. absurd (none_or_tap t f) }
-  clocked_on_places s p (Some tap) e = go (s.pointer % n == n - 1)
+  clocked_on_places s p (Tap tap) e = go (s.pointer % n == n - 1)
     where
-      go : (u : Bool) → Places (cond u (at s tap None) (at s (after s.pointer 1) (Some tap)))
+      go : (u : Bool) → Places (cond u (at s tap None) (at s (after s.pointer 1) (Tap tap)))
       go true = record { place = p.tap tap e; tap = λ t f. absurd (none_or_tap t f) }
       go false = record { place = omega arith; tap = λ t f. p.tap t (e ∙ f) }
 

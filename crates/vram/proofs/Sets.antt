@@ -4,7 +4,7 @@ use Rattle.std.specs.Prelude.{◌≡◌, ℕ, ◌+◌, ◌*◌, true, false, Lis
 use Rattle.std.proofs.Common.{ap, add-zero}
 use Rattle.words.specs.Word.{merged, covers}
 use Rattle.vram.specs.declared.Vram.{Vram}
-use Rattle.std.specs.Prelude.Option.{None, Some}
+use Rattle.vram.specs.declared.Waiting.TheVariants.{None, Tap}
 use Rattle.vram.specs.declared.Stop.TheVariants.{Every128}
 use Rattle.vram.specs.declared.Cycle.{Cycle}
 use Rattle.vram.specs.declared.Cycle.TheVariants.{WordWrite, BlockWrite, LoadColour, LoadMask, ResetRefresh, FullTransfer, SplitTransfer, StopPoints}
@@ -34,7 +34,7 @@ sets (FullTransfer row half tap) s = record { state = with_serial s true tap Non
 sets (SplitTransfer row half tap) s =
     let h = other s.pointer in
     record {
-      state = with_serial s s.loaded s.pointer (Some (128 * h + tap));
+      state = with_serial s s.loaded s.pointer (Tap (128 * h + tap));
       from = 512 * row + 256 * half + 128 * h;
       to = 128 * h;
       count = 128;

@@ -2,7 +2,7 @@
 use Rattle.std.specs.Prelude.{◌≡◌, ℕ, ◌+◌, ◌-◌, ◌*◌, ◌/◌, ◌<◌, ◌≤◌, Bool, true, false, ◌≢◌, ◌⊎◌, length, nat_lt, slice_index, refl}
 use Rattle.std.proofs.Math.Path.{ap}
 use Rattle.std.proofs.Common.{◌∙◌, inl, inr, ltb-true, ltb-false, arith}
-use Rattle.std.specs.Prelude.Option.{None, Some}
+use Rattle.vram.specs.declared.Waiting.TheVariants.{None, Tap}
 use Rattle.vram.specs.declared.Cycle.{Cycle}
 use Rattle.vram.specs.declared.Cycle.TheVariants.{FullTransfer, SplitTransfer}
 use Rattle.vram.specs.State.{with_serial, half_of, other}
@@ -59,7 +59,7 @@ module _ (b : Board) (row half tap : ℕ) (z : number (SplitTransfer row half ta
 
   -- the tap waits in the half without the pointer; the pointer stays
   pub split_transfer : step (SplitTransfer row half tap) b
-      ≡ board (with_serial b.state b.state.loaded b.state.pointer (Some (128 * h + tap))) b.memory
+      ≡ board (with_serial b.state b.state.loaded b.state.pointer (Tap (128 * h + tap))) b.memory
       (copied b.memory (512 * row + 256 * half + 128 * h) b.serial (128 * h) 128)
   unfolding effect
   split_transfer = step_acts effect (SplitTransfer row half tap) b z

@@ -3,7 +3,7 @@ use Rattle.std.specs.Prelude.{ℕ, ◌+◌, ◌*◌, ◌/◌, Bool, true, false,
 use Rattle.words.specs.Bit.{bit}
 use Rattle.words.specs.Word.{merged, covers, lets}
 use Rattle.vram.specs.declared.Vram.{Vram}
-use Rattle.std.specs.Prelude.Option.{None, Some}
+use Rattle.vram.specs.declared.Waiting.TheVariants.{None, Tap}
 use Rattle.vram.specs.declared.Stop.TheVariants.{Every128}
 use Rattle.vram.specs.declared.Cycle.{Cycle}
 use Rattle.vram.specs.declared.Cycle.TheVariants.{WordWrite, BlockWrite, LoadColour, LoadMask, ResetRefresh, FullTransfer, SplitTransfer, StopPoints}
@@ -47,7 +47,7 @@ effect (FullTransfer row half tap) b =
     board (with_serial b.state true tap None) b.memory (copied b.memory (512 * row + 256 * half) b.serial 0 256)
 effect (SplitTransfer row half tap) b =
     let h = other b.state.pointer in
-    board (with_serial b.state b.state.loaded b.state.pointer (Some (128 * h + tap)))
+    board (with_serial b.state b.state.loaded b.state.pointer (Tap (128 * h + tap)))
     b.memory
     (copied b.memory (512 * row + 256 * half + 128 * h) b.serial (128 * h) 128)
 effect (StopPoints length) b = board (with_stop b.state (stop_of length)) b.memory b.serial

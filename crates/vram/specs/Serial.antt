@@ -1,12 +1,12 @@
 -- The serial port: document 01, "A serial clock", and change request M-107. The register is read in partitions of n places. Assumes nothing.
 use Rattle.std.specs.Prelude.{ℕ, zero, suc, ◌+◌, ◌-◌, ◌%◌, cond, List, [], ◌∷◌, ◌==◌, slice_index}
 use Rattle.vram.specs.declared.Vram.{Vram}
-use Rattle.std.specs.Prelude.{Option}
-use Rattle.std.specs.Prelude.Option.{None, Some}
+use Rattle.vram.specs.declared.Waiting.{Waiting}
+use Rattle.vram.specs.declared.Waiting.TheVariants.{None, Tap}
 use Rattle.vram.specs.State.{stop_length, with_serial}
 
 -- the state at another place, with this tap waiting
-abbrev pub at : Vram → ℕ → Option ℕ → Vram
+abbrev pub at : Vram → ℕ → Waiting → Vram
 at s place w = with_serial s s.loaded place w
 
 -- the k-th place after another, 255 going to 0
@@ -18,9 +18,9 @@ abbrev pub through_in : ℕ → ℕ → ℕ
 through_in n place = n - place % n
 
 -- at a partition's last place to the waiting tap, which is used up; otherwise to the next place
-abbrev pub clocked_on : ℕ → Option ℕ → Vram → Vram
+abbrev pub clocked_on : ℕ → Waiting → Vram → Vram
 clocked_on n None s = at s (after s.pointer 1) None
-clocked_on n (Some tap) s = cond (s.pointer % n == n - 1) (at s tap None) (at s (after s.pointer 1) (Some tap))
+clocked_on n (Tap tap) s = cond (s.pointer % n == n - 1) (at s tap None) (at s (after s.pointer 1) (Tap tap))
 
 unfoldable pub clock_in : ℕ → Vram → Vram
 clock_in n s = clocked_on n s.waiting s

@@ -4,8 +4,8 @@ use Rattle.std.proofs.Math.Path.{refl, ap}
 use Rattle.std.proofs.Common.{sym, ◌∙◌, zero-add, drop-cons, arith, eq-eqb, ne_eqb}
 use Rattle.std.proofs.Math.Nat.{mod-eq_of_lt, add-zero}
 use Rattle.vram.specs.declared.Vram.{Vram}
-use Rattle.std.specs.Prelude.{Option}
-use Rattle.std.specs.Prelude.Option.{None, Some}
+use Rattle.vram.specs.declared.Waiting.{Waiting}
+use Rattle.vram.specs.declared.Waiting.TheVariants.{None, Tap}
 use Rattle.vram.specs.State.{with_serial}
 use Rattle.vram.specs.Partition.{Partition, partition, within, next}
 use Rattle.vram.specs.Serial.{at, after, through_in, clocked_on, clock_in, clocks_in, clocked_words_in, length_of, through, clock, clocks, clocked_words}
@@ -62,9 +62,9 @@ module _ (n : ℕ) (P : Partition n) where
       e : (s.pointer + 1) % 256 ≡ s.pointer + 1
       e = mod-eq_of_lt (next P s.pointer p h).0
 
-      go : (w : Option ℕ) → clocked_on n w s ≡ at s (s.pointer + 1) w
+      go : (w : Waiting) → clocked_on n w s ≡ at s (s.pointer + 1) w
       go None = rw e
-      go (Some tap) = rw (ne_eqb (s.pointer % n) (n - 1) (λ z. omega arith), e)
+      go (Tap tap) = rw (ne_eqb (s.pointer % n) (n - 1) (λ z. omega arith), e)
 
   pub clocks_in_within : (k : ℕ) (s : Vram) → s.pointer < 256 → s.pointer % n + k < n → clocks_in n k s ≡ at s (s.pointer + k) s.waiting
   unfolding clocks_in
@@ -108,14 +108,14 @@ clocks_in_none n (suc k) s p w =
 
 module _ (n : ℕ) (P : Partition n) (tap : ℕ) (t : tap < 256) where
   -- at the partition's last place
-  ends : (s : Vram) → s.waiting ≡ Some tap → s.pointer % n + 1 ≡ n → clock_in n s ≡ at s tap None
+  ends : (s : Vram) → s.waiting ≡ Tap tap → s.pointer % n + 1 ≡ n → clock_in n s ≡ at s tap None
   unfolding clock_in
   ends s w h =
       let z : s.pointer % n ≡ n - 1 = omega arith in
       rw (w, eq-eqb (s.pointer % n) (n - 1) z)
 
   -- j places before it
-  passes : (j k : ℕ) (s : Vram) → s.pointer < 256 → s.waiting ≡ Some tap → s.pointer % n + suc j ≡ n
+  passes : (j k : ℕ) (s : Vram) → s.pointer < 256 → s.waiting ≡ Tap tap → s.pointer % n + suc j ≡ n
       → clocks_in n (suc j + k) s ≡ at s (after tap k) None
   unfolding clocks_in
   passes zero k s p w h =
@@ -128,7 +128,7 @@ module _ (n : ℕ) (P : Partition n) (tap : ℕ) (t : tap < 256) where
       ∙ ap (clocks_in n (suc j + k)) (clock_in_within n P s p (omega arith))
       ∙ passes j k (at s (s.pointer + 1) s.waiting) g.0 w (rw g.1 (omega arith))
 
-  pub clocks_in_through : (k : ℕ) (s : Vram) → s.pointer < 256 → s.waiting ≡ Some tap → through_in n s.pointer ≤ k
+  pub clocks_in_through : (k : ℕ) (s : Vram) → s.pointer < 256 → s.waiting ≡ Tap tap → through_in n s.pointer ≤ k
       → clocks_in n k s ≡ at s (after tap (k - through_in n s.pointer)) None
   clocks_in_through k s p w h =
       let l = within P s.pointer in
@@ -138,12 +138,12 @@ module _ (n : ℕ) (P : Partition n) (tap : ℕ) (t : tap < 256) where
 -- ---- a clock moves the pointer and uses up the tap; every other register stays
 
 module _ (n : ℕ) where
-  clocked_on_keeps : (s : Vram) (w : Option ℕ) → clocked_on n w s ≡ at s (clocked_on n w s).pointer (clocked_on n w s).waiting
+  clocked_on_keeps : (s : Vram) (w : Waiting) → clocked_on n w s ≡ at s (clocked_on n w s).pointer (clocked_on n w s).waiting
   clocked_on_keeps s None = refl
-  clocked_on_keeps s (Some tap) = go (s.pointer % n == n - 1)
+  clocked_on_keeps s (Tap tap) = go (s.pointer % n == n - 1)
     where
-      go : (u : Bool) → cond u (at s tap None) (at s (after s.pointer 1) (Some tap))
-          ≡ at s (cond u (at s tap None) (at s (after s.pointer 1) (Some tap))).pointer (cond u (at s tap None) (at s (after s.pointer 1) (Some tap))).waiting
+      go : (u : Bool) → cond u (at s tap None) (at s (after s.pointer 1) (Tap tap))
+          ≡ at s (cond u (at s tap None) (at s (after s.pointer 1) (Tap tap))).pointer (cond u (at s tap None) (at s (after s.pointer 1) (Tap tap))).waiting
       go true = refl
       go false = refl
 
@@ -164,7 +164,7 @@ pub clocks_keep : (k : ℕ) (s : Vram) → clocks k s ≡ with_serial s s.loaded
 clocks_keep k s = clocks_in_keeps (length_of s) k s
 
 -- and so the length of its partitions
-length_kept : (s : Vram) (place : ℕ) (w : Option ℕ) → length_of (at s place w) ≡ length_of s
+length_kept : (s : Vram) (place : ℕ) (w : Waiting) → length_of (at s place w) ≡ length_of s
 unfolding length_of
 length_kept s place w = refl
 

@@ -6,8 +6,8 @@ use Rattle.vram.specs.declared.Cycle.{Cycle}
 use Rattle.vram.specs.declared.Cycle.TheVariants.{BlockWrite, LoadColour, LoadMask}
 use Rattle.vram.specs.declared.Stop.{Stop}
 use Rattle.vram.specs.declared.Stop.TheVariants.{Every16, Every32, Every64, Every128}
-use Rattle.std.specs.Prelude.{Option}
-use Rattle.std.specs.Prelude.Option.{None, Some}
+use Rattle.vram.specs.declared.Waiting.{Waiting}
+use Rattle.vram.specs.declared.Waiting.TheVariants.{None, Tap}
 use Rattle.vram.specs.State.{fresh, with_serial, with_stop, other, ruled}
 use Rattle.vram.specs.Memory.{put, puts}
 use Rattle.vram.specs.Board.{board, effect}
@@ -31,15 +31,15 @@ block_example = refl
 
 -- ---- Table 5, "stop-point locations": the places at which a clock uses up the waiting tap
 
-abbrev used_up : Option ℕ → Bool
+abbrev used_up : Waiting → Bool
 used_up None = true
-used_up (Some tap) = false
+used_up (Tap tap) = false
 
 -- of k places from one on, with a tap waiting in the other half
 abbrev stops : Stop → ℕ → ℕ → List ℕ
 stops t place zero = []
 stops t place (suc k) =
-    let s = with_stop (with_serial fresh true place (Some (128 * other place))) t in
+    let s = with_stop (with_serial fresh true place (Tap (128 * other place))) t in
     cond (used_up (clock s).waiting) (place ∷ stops t (suc place) k) (stops t (suc place) k)
 
 pub stop_example : (stops Every16 0 256 ≡ 15 ∷ 31 ∷ 47 ∷ 63 ∷ 79 ∷ 95 ∷ 111 ∷ 127 ∷ 143 ∷ 159 ∷ 175 ∷ 191 ∷ 207 ∷ 223 ∷ 239 ∷ 255 ∷ [])

@@ -1,8 +1,8 @@
 -- The memory state: document 01, "The memory and its registers", and change request M-107. Assumes nothing.
 use Rattle.std.specs.Prelude.{ℕ, ◌/◌, Bool, true, false, cond, not, ◌&&◌, ◌==◌, nat_lt}
 use Rattle.vram.specs.declared.Vram.{Vram}
-use Rattle.std.specs.Prelude.{Option}
-use Rattle.std.specs.Prelude.Option.{None, Some}
+use Rattle.vram.specs.declared.Waiting.{Waiting}
+use Rattle.vram.specs.declared.Waiting.TheVariants.{None, Tap}
 use Rattle.vram.specs.declared.Stop.{Stop}
 use Rattle.vram.specs.declared.Stop.TheVariants.{Every16, Every32, Every64, Every128}
 
@@ -35,7 +35,7 @@ abbrev pub with_mask : Vram → ℕ → Bool → Vram
 with_mask s m p =
     record { colour = s.colour; mask = m; persistent = p; loaded = s.loaded; pointer = s.pointer; waiting = s.waiting; stop = s.stop }
 
-abbrev pub with_serial : Vram → Bool → ℕ → Option ℕ → Vram
+abbrev pub with_serial : Vram → Bool → ℕ → Waiting → Vram
 with_serial s l p w =
     record { colour = s.colour; mask = s.mask; persistent = s.persistent; loaded = l; pointer = p; waiting = w; stop = s.stop }
 
@@ -59,9 +59,9 @@ other pointer = cond (nat_lt pointer 128) 1 0
 abbrev pub tap_ok : ℕ → Bool → ℕ → Bool
 tap_ok tap loaded pointer = loaded && not (half_of tap == half_of pointer)
 
-abbrev pub waiting_ok : Option ℕ → Bool → ℕ → Bool
+abbrev pub waiting_ok : Waiting → Bool → ℕ → Bool
 waiting_ok None loaded pointer = true
-waiting_ok (Some tap) loaded pointer = tap_ok tap loaded pointer
+waiting_ok (Tap tap) loaded pointer = tap_ok tap loaded pointer
 
 -- of the length of a partition nothing is asked: a `Stop` has one of the four (`length_ok`)
 unfoldable pub ruled : Vram → Bool

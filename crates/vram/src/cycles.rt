@@ -11,11 +11,11 @@ ghost use Rattle.vram.specs.Board.{board, in_force, allowed};
 ghost use Rattle.vram.specs.Refusal.{given};
 ghost use Rattle.refusals.specs.Refusal.{write_refusal, load_refusal, full_refusal, split_refusal, stop_refusal};
 ghost use Rattle.vram.specs.Calls.{answered_by, answers, outcome, cycle_call, Wrote, Transferred};
-ghost use Rattle.std.specs.Prelude.Option.{None, Some};
+ghost use Rattle.vram.specs.declared.Waiting.TheVariants.{None, Tap};
 ghost use Rattle.vram.specs.declared.Stop.TheVariants.{Every128};
 
 use crate::memory::{copy, place, write_block, write_word};
-use crate::{Cycle, Stop, Vram};
+use crate::{Cycle, Stop, Vram, Waiting};
 use numbers::Refusal;
 use refusals::{full_refusal, load_refusal, split_refusal, stop_refusal, write_refusal};
 
@@ -152,7 +152,7 @@ impl Vram {
         Ok(Vram {
             loaded: true,
             pointer: tap,
-            waiting: None,
+            waiting: Waiting::None,
             ..self
         })
     }
@@ -165,7 +165,7 @@ impl Vram {
         half: u8,
         tap: u8,
     ) -> Result<Vram, Refusal>
-        ensures { Transferred (first_of (given self (length memory.now) (length serial.old)) (split_refusal (length memory.now / 512) self.loaded row half tap)) self (with_serial self self.loaded self.pointer (Some (128 * other self.pointer + tap))) serial.old (copied memory.now (512 * row + 256 * half + 128 * other self.pointer) serial.old (128 * other self.pointer) 128) (answered_by self result) serial.new }
+        ensures { Transferred (first_of (given self (length memory.now) (length serial.old)) (split_refusal (length memory.now / 512) self.loaded row half tap)) self (with_serial self self.loaded self.pointer (Tap (128 * other self.pointer + tap))) serial.old (copied memory.now (512 * row + 256 * half + 128 * other self.pointer) serial.old (128 * other self.pointer) 128) (answered_by self result) serial.new }
     {
         self.given(memory.len(), serial.len())?;
         split_refusal(memory.len() / 512, self.loaded, row, half, tap)?;
@@ -174,7 +174,7 @@ impl Vram {
         let from = place(row as u32, 256 * (half as u32)) + to;
         copy(memory, from, serial, to, 128);
         Ok(Vram {
-            waiting: Some(first + tap),
+            waiting: Waiting::Tap(first + tap),
             ..self
         })
     }

@@ -20,6 +20,13 @@ use memory::place;
 use numbers::{Refusal, number, refuse};
 use refusals::{fitted, placed};
 
+// The tap that a split transfer leaves for the end of the pointer's partition: document 01 names this form, so it is no Option.
+#[derive(Clone, Copy, Debug, PartialEq, Eq)]
+pub enum Waiting {
+    None,
+    Tap(u8),
+}
+
 // The length of a partition of the serial register: a stop point every so many places. There is no other length to exclude.
 #[derive(Clone, Copy, Debug, PartialEq, Eq)]
 pub enum Stop {
@@ -29,8 +36,7 @@ pub enum Stop {
     Every128,
 }
 
-// The registers, by value. Every field is public: a state that the rules exclude can be built, and is refused. What waits is the tap that a
-// split transfer leaves for the end of the pointer's partition.
+// The registers, by value. Every field is public: a state that the rules exclude can be built, and is refused.
 #[derive(Clone, Copy, Debug, PartialEq, Eq)]
 pub struct Vram {
     pub colour: u16,
@@ -38,7 +44,7 @@ pub struct Vram {
     pub persistent: bool,
     pub loaded: bool,
     pub pointer: u8,
-    pub waiting: Option<u8>,
+    pub waiting: Waiting,
     pub stop: Stop,
 }
 
@@ -131,7 +137,7 @@ impl Vram {
             persistent: false,
             loaded: false,
             pointer: 0,
-            waiting: None,
+            waiting: Waiting::None,
             stop: Stop::Every128,
         }
     }

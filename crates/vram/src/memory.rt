@@ -45,5 +45,8 @@ pub(crate) fn copy(memory: &[u16], from: usize, serial: &mut [u16], to: usize, n
     requires { (from + n ≤ length memory.now) × (to + n ≤ length serial.old) }
     ensures { serial.new ≡ copied memory.now from serial.old to n }
 {
-    serial[to..to + n].copy_from_slice(&memory[from..from + n]);
+    // Word by word: by `copy_from_slice` C's archives would need `memmove` from outside.
+    for i in 0..n {
+        serial[to + i] = memory[from + i];
+    }
 }

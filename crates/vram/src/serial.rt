@@ -3,7 +3,7 @@ ghost use Rattle.std.specs.Prelude.{◌≡◌, ◌<◌};
 ghost use Rattle.vram.specs.Serial.{after, through, clocks};
 ghost use Rattle.vram.specs.Calls.{clocked_by, clock_call, moved_by, clocks_call};
 
-use crate::Vram;
+use crate::{Vram, Waiting};
 use numbers::{Refusal, refuse};
 
 // The place so many after another, 255 going to 0. The second clause is the range of a u8, which the callers' proofs use.
@@ -29,9 +29,9 @@ impl Vram {
         let through = self.through();
         let later = advance(self.pointer, count);
         match self.waiting {
-            Some(tap) if through <= count => Vram {
+            Waiting::Tap(tap) if through <= count => Vram {
                 pointer: advance(tap, count - through),
-                waiting: None,
+                waiting: Waiting::None,
                 ..self
             },
             _ => Vram {

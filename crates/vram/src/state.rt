@@ -2,7 +2,7 @@
 ghost use Rattle.std.specs.Prelude.{◌≡◌};
 ghost use Rattle.vram.specs.State.{ruled};
 
-use crate::Vram;
+use crate::{Vram, Waiting};
 
 impl Vram {
     // Whether the rules allow the state: a waiting tap needs a full transfer made, and lies in the half that does not hold the pointer. That
@@ -12,8 +12,8 @@ impl Vram {
         ensures { result ≡ ruled self }
     {
         match self.waiting {
-            None => true,
-            Some(tap) => self.loaded & (tap / 128 != self.pointer / 128),
+            Waiting::None => true,
+            Waiting::Tap(tap) => self.loaded & (tap / 128 != self.pointer / 128),
         }
     }
 }

@@ -1,9 +1,6 @@
 -- `host::linkshoar_list_run` meets its contract. Assumes nothing.
-use Rattle.std.proofs.Common.{ℕ, ap, ◌∙◌}
 use Rattle.vram.specs.Board.{effect}
 use Rattle.list.specs.Meaning.{ran_by}
-use Rattle.registers.specs.declared.Ran.{Ran}
-use Rattle.registers.specs.Lists.{listed}
 use Rattle.registers.specs.StateLaws.{taken_ok, taken_err}
 use Rattle.registers.specs.ListLaws.{list_excluded, list_done}
 use Rattle.host.proofs.linkshoar_list_run.Goals as goal
@@ -19,5 +16,4 @@ pub returns-in-Err : goal.returns-in-Err
 returns-in-Err c =
     let a = c.args in
     let t = taken_err a.state c.in-Err.refusal c.in-Err.ensures in
-    ap (λ (r : Ran). listed r a.memory.now a.serial.now) (c.excluded.ensures ∙ ap (λ (n : ℕ). record { state = a.state; number = n; place = 0 }) t.1)
-    ∙ list_excluded effect a.state t.0 a.memory.now a.serial.now a.list.now
+    rw (c.excluded.ensures, t.1) (list_excluded effect a.state t.0 a.memory.now a.serial.now a.list.now)

@@ -1,10 +1,6 @@
 -- `marks_c::linkshoar_list_run_marked` meets its contract. Assumes nothing.
-use Rattle.std.specs.Prelude.{ℕ}
-use Rattle.std.proofs.Common.{ap, ◌∙◌}
 use Rattle.vram.specs.Board.{effect}
 use Rattle.list.specs.Meaning.{ran_by}
-use Rattle.registers.specs.declared.Ran.{Ran}
-use Rattle.marks_c.specs.Calls.{listed}
 use Rattle.registers.specs.StateLaws.{taken_ok, taken_err}
 use Rattle.marks_c.specs.CallLaws.{marked_excluded, marked_done}
 use Rattle.marks_c.proofs.linkshoar_list_run_marked.Goals as goal
@@ -20,6 +16,4 @@ pub returns-in-Err : goal.returns-in-Err
 returns-in-Err c =
     let a = c.args in
     let p = taken_err a.state c.in-Err.refusal c.in-Err.ensures in
-    ap (λ (r : Ran). listed r a.memory.now a.serial.now a.marks.now)
-    (c.excluded.ensures ∙ ap (λ (n : ℕ). record { state = a.state; number = n; place = 0 }) p.1)
-    ∙ marked_excluded effect a.state a.memory.now a.serial.now a.marks.now a.list.now p.0
+    rw (c.excluded.ensures, p.1) (marked_excluded effect a.state a.memory.now a.serial.now a.marks.now a.list.now p.0)

@@ -1,16 +1,31 @@
 -- `pieces::rule::zeros_from` meets its contract. Assumes nothing.
-use Rattle.std.proofs.Common.{rules, ◌≡◌, ◌≢◌, drop}
-use Rattle.std.proofs.lemmas.Iterator.{YieldsList-from_slice, cases_from_all}
-use Rattle.std.proofs.lemmas.Iterator.Adapters.{YieldsList-from_skip}
-use borrow.Author.Tests.{tests}
-use Rattle.pieces.specs.PackLaws.{zeros_told}
+use Rattle.std.proofs.Common.{refl, sym, ◌∙◌, arith}
+use Rattle.pieces.specs.PackLaws.{zero_end, zero_good, zero_bad}
 use Rattle.pieces.proofs.rule.zeros_from.Goals as goal
 
+pub loop-i-init : goal.loop-i-init
+loop-i-init c = (refl, omega arith)
+
+pub bounds-s-i : goal.bounds-s-i
+bounds-s-i c = omega arith
+
+pub returns-then-s-i-ne0 : goal.returns-then-s-i-ne0
+returns-then-s-i-ne0 c =
+    let l = c.loop-i in
+    (sym (zero_bad _ l.i c.loop-i-test.true c.if-s-i-ne0.true) ∙ l.invariant.0, l.invariant.1)
+
+pub overflow_add-i : goal.overflow_add-i
+overflow_add-i c = omega arith
+
+pub loop-i-smaller : goal.loop-i-smaller
+loop-i-smaller c = omega arith
+
+pub loop-i-preserved : goal.loop-i-preserved
+loop-i-preserved c =
+    let l = c.loop-i in
+    (zero_good _ l.i c.loop-i-test.true c.if-s-i-ne0.false ∙ l.invariant.0, l.invariant.1)
+
 pub returns : goal.returns
-returns c = (
-  zeros_told (drop c.args.n c.args.held.now) c.all.result
-      (cases_from_all _ _ _ (λ x. x ≡ 0) (λ x. x ≢ 0) c.all.ensures.ran
-      (YieldsList-from_skip c.args.n (YieldsList-from_slice c.args.held.now cc) c.skip.ensures.count)
-      (λ x q k. search (rules, tests)) (λ x q k. search (rules, tests))),
-  c.told-held,
-)
+returns c =
+    let l = c.loop-i in
+    (sym (zero_end _ l.i c.loop-i-test.false) ∙ l.invariant.0, l.invariant.1)

@@ -1,9 +1,11 @@
 -- `planner::Fill::put` meets its contract. Assumes nothing.
-use Rattle.std.proofs.Common.{◌≡◌, sym, ap, ◌∙◌}
+use Rattle.std.proofs.Common.{◌≡◌, sym, ap, ◌∙◌, refl, arith, length, leb, le-leb}
 use Rattle.std.proofs.lemmas.Result.{err_from_is_err_and}
 use lib.Seq.{sets}
+use Rattle.numbers.specs.Refuse.{refuse}
 use Rattle.numbers.specs.RefusalLaws.{number_not_zero}
-use Rattle.planner.specs.Shapes.{made, Words, Blocks}
+use Rattle.planner.specs.declared.Filled.{Filled}
+use Rattle.planner.specs.Shapes.{made, shape_answer, Words, Blocks}
 use Rattle.planner.proofs.CallLaws.{fill_refuses}
 use Rattle.planner.proofs.ShapeLaws.{shape_known, shape_most, put_short, put_room, put_done, nothing_list}
 use Rattle.planner.proofs.Fill.put.Goals as goal
@@ -17,6 +19,15 @@ returns-in_err-shape c =
 
 pub counts-counts-requires : goal.counts-counts-requires
 counts-counts-requires c = shape_most c.args.self _ (shape_known c.args.self _ c.in_ok-shape.ensures)
+
+pub returns-in-Nothing : goal.returns-in-Nothing
+unfolding shape_answer
+returns-in-Nothing c =
+    let a = c.args in
+    let s = shape_known a.self _ (sym (ap made c.in-Nothing.is) ∙ c.in_ok-shape.ensures) in
+    let z : c.counts-counts.result.bytes ≡ 0 = ap (λ (f : Filled). f.bytes) (c.counts-counts.ensures ∙ ap (λ x. shape_answer (made x)) c.in-Nothing.is) in
+    let room : 0 ≡ refuse (leb c.counts-counts.result.bytes (length a.list.now)) 15 0 = rw (z, le-leb 0 (length a.list.now) (omega arith)) refl in
+    put_done a.self a.list.now _ c.in_ok-shape.ensures _ _ c.counts-counts.ensures room _ (sym (ap (sets a.list.now 0) (nothing_list a.self s)))
 
 pub returns-in_err-refuse : goal.returns-in_err-refuse
 returns-in_err-refuse c =
@@ -39,12 +50,6 @@ put_words-requires c =
       sym e ∙ ap Words (shape_known a.self _ e).2,
       put_room a.self a.list.now _ c.in_ok-shape.ensures _ _ c.counts-counts.ensures c.in_ok-refuse.ensures,
     )
-
-pub returns-in-Nothing : goal.returns-in-Nothing
-returns-in-Nothing c =
-    let a = c.args in
-    let s = shape_known a.self _ (sym (ap made c.in-Nothing.is) ∙ c.in_ok-shape.ensures) in
-    put_done a.self a.list.now _ c.in_ok-shape.ensures _ _ c.counts-counts.ensures c.in_ok-refuse.ensures _ (sym (ap (sets a.list.now 0) (nothing_list a.self s)))
 
 pub returns-in-Blocks : goal.returns-in-Blocks
 returns-in-Blocks c =

@@ -1,16 +1,16 @@
 -- `vram::Vram::moved` meets its contract. Assumes nothing.
 use Rattle.std.proofs.Common.{ℕ, ◌-◌, ap, ◌∙◌, arith}
 use Rattle.vram.specs.Serial.{at, after}
-use Rattle.std.specs.Prelude.Option.{None}
+use Rattle.vram.specs.declared.Waiting.TheVariants.{None}
 use Rattle.vram.proofs.Moves.{stays, goes_round, jumps}
 use Rattle.vram.proofs.Vram.moved.Goals as goal
 
-pub returns-in-Some : goal.returns-in-Some
-returns-in-Some c =
+pub returns-in-Tap : goal.returns-in-Tap
+returns-in-Tap c =
     let a = c.args in
     ap (λ (x : ℕ). at a.self x None)
-    (c.advance.ensures.0 ∙ ap (λ (x : ℕ). after c.in-Some.tap (a.count - x)) c.through-through.ensures)
-    ∙ jumps a.self a.count c.advance-later.ensures.1 c.in-Some.tap c.advance.ensures.1 c.in-Some.is
+    (c.advance.ensures.0 ∙ ap (λ (x : ℕ). after c.in-Tap.tap (a.count - x)) c.through-through.ensures)
+    ∙ jumps a.self a.count c.advance-later.ensures.1 c.in-Tap.tap c.advance.ensures.1 c.in-Tap.is
     (omega (arith, c.if-through-count.true, c.through-through.ensures))
 
 pub returns-in_default : goal.returns-in_default
