@@ -1,6 +1,5 @@
 -- Laws of the line as the code holds it, and of its rule. Assumes nothing.
-use Rattle.std.specs.Prelude.{◌≡◌, refl, Bool, ◌&&◌, ◌||◌, List, [], ◌∷◌, ◌++◌, ◌≢◌, ℕ, zero, suc, ◌+◌, ◌-◌, ◌≤◌, ◌<◌, get_or, take, drop, set, MatchBool, HoldsAt}
-use Rattle.std.specs.List.{AllWithin}
+use Rattle.std.specs.Prelude.{◌≡◌, refl, Bool, ◌&&◌, ◌||◌, List, [], ◌∷◌, ◌++◌, ◌≢◌, ℕ, zero, suc, ◌+◌, ◌-◌, ◌≤◌, ◌<◌, get_or, take, drop, set}
 use Rattle.std.proofs.Math.Path.{sym}
 use Rattle.std.proofs.Common.{ap, ◌∙◌, arith, true≢false, add-one, drop_of_length-le, drop-cons, eqb-true, eq-eqb, ne_eqb, leb-true, leb-false, le-leb}
 use Rattle.std.proofs.Math.Bool.{true, false}
@@ -66,26 +65,6 @@ module _ (s : List ℕ) (i : ℕ) (h : i < length s) where
   pub zero_bad : get_or s i 0 ≢ 0 → all_zero (drop i s) ≡ false
   unfolding all_zero
   zero_bad e = rw (drop-cons s i 0 h, ne_eqb (get_or s i 0) 0 e)
-
--- the whole search
-zeros_all : (s : List ℕ) → AllWithin (λ x. x ≡ 0) s 0 (length s) → all_zero s ≡ true
-unfolding all_zero
-zeros_all [] h = refl
-zeros_all (x ∷ s) h = rw (eq-eqb x 0 (h 0 0 (omega arith) (omega arith))) (zeros_all s (λ k d l u. h (suc k) d (omega arith) (omega arith)))
-
-zeros_not : (s : List ℕ) (k : ℕ) → k < length s → HoldsAt (λ x. x ≢ 0) s k → all_zero s ≡ false
-unfolding all_zero
-zeros_not [] k l n = absurd (omega arith)
-zeros_not (x ∷ s) zero l n = rw (ne_eqb x 0 (n 0))
-zeros_not (x ∷ s) (suc k) l n = ap (λ (t : Bool). eqb x 0 && t) (zeros_not s k (omega arith) n) ∙ no (eqb x 0)
-  where
-    no : (t : Bool) → (t && false) ≡ false
-    no true = refl
-    no false = refl
-
-pub zeros_told : (s : List ℕ) (r : Bool) → MatchBool r (AllWithin (λ x. x ≡ 0) s 0 (length s)) ((k : ℕ) × (k < length s) × HoldsAt (λ x. x ≢ 0) s k) → r ≡ all_zero s
-zeros_told s true h = sym (zeros_all s h)
-zeros_told s false (k, l, n) = sym (zeros_not s k l n)
 
 -- ---- a line that meets the rule, by what it says
 

@@ -37,14 +37,15 @@ pub(crate) fn meet(
     match head_of(bytes) {
         Head::Waits => Ok(None),
         Head::Wrong => Err(Refusal::FieldUnreadable),
-        Head::Whole { cycle, size } => {
-            let after = state.cycle(memory, serial, cycle)?;
-            Ok(Some(Met {
+        // No `?` here: an edit has a refused field answer otherwise.
+        Head::Whole { cycle, size } => match state.cycle(memory, serial, cycle) {
+            Ok(after) => Ok(Some(Met {
                 state: after,
                 left: opens(bytes[0], at as u64, left),
                 size,
-            }))
-        }
+            })),
+            Err(refusal) => Err(refusal),
+        },
     }
 }
 
